@@ -1,0 +1,4 @@
+pub mod Standard
+pub mod Sheets
+pub mod Laws
+pub mod Stored

@@ -6,4 +6,4 @@ use Rattle.cases.specs.Table.{Every-case-holds}
 pub every-case : Every-case-holds
 unfolding ofInt mul sub div lt le
 every-case =
-    ((refl, refl, refl, refl), ((refl, refl, refl, refl), ((refl, refl, refl, refl), ((refl, refl, refl, refl), ((refl, refl, refl, refl), ((refl, refl, refl, refl), tt))))))
+    ((refl, refl, refl, refl), ((refl, refl, refl, refl), ((refl, refl, refl, refl), ((refl, refl, refl, refl), ((refl, refl, refl, refl), ((refl, refl, refl, refl), (refl, (refl, tt))))))))

@@ -16,13 +16,21 @@ use Rattle.pack.specs.Sheets.{sheetOf, remainingOf}
 use Rattle.pack.specs.Standard.{whole}
 use Rattle.pack.specs.declared.line.PackLine.{PackLine}
 use Rattle.pack.specs.declared.line.PackLine.the-variants.{Begin, Drain, Idle}
+use Rattle.roster.specs.Answers.{appendAnswer}
+use Rattle.roster.specs.Faults.{refusalNumber}
+use Rattle.roster.specs.Model.{opened}
+use Rattle.roster.specs.declared.entry.Entry.{Entry}
+use Rattle.roster.specs.declared.entry.Entry.the-variants.{Seat}
 
 pub data Row : Type 0 where
   -- the sheet of these lines has this charge, this remaining time, and these counts of fit and unfit lines
   packSheet : List PackLine → Float → Option Float → ℕ → ℕ → Row
+  -- an open roster of these entries and this capacity refuses an append at this place with this number
+  rosterAppend : List (Entry ℕ) → ℕ → ℕ → ℕ → Row
 
 abbrev pub Holds : Row → Type 0
 Holds (packSheet ls q t f u) = (sheetOf ls .charge ≡ q) × (remainingOf (sheetOf ls) ≡ t) × (sheetOf ls .fit ≡ f) × (sheetOf ls .unfit ≡ u)
+Holds (rosterAppend es n p k) = refusalNumber (appendAnswer (opened es n) p) ≡ Some k
 
 -- 9.5, which is 19 / 2
 abbrev pub nineAndAHalf : Float
@@ -36,6 +44,8 @@ table =
     ∷ packSheet (Begin (whole 1000) ∷ Drain (whole 10) 101 ∷ []) (whole 0) (Some (whole 0)) 2 0
     ∷ packSheet (Begin (whole 1000) ∷ Drain nineAndAHalf 1 ∷ []) (whole 1000) None 1 1
     ∷ packSheet (Begin (whole 1000) ∷ Drain (whole 10) 1 ∷ []) (whole 990) (Some (whole 99)) 2 0
+    ∷ rosterAppend [] 32 2 21
+    ∷ rosterAppend (Seat 0 ∷ []) 1 2 22
     ∷ []
 
 abbrev pub Every-case-holds : Type 0

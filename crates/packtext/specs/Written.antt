@@ -13,12 +13,8 @@ use Rattle.pack.specs.Standard.{whole}
 use Rattle.pack.specs.declared.line.PackLine.{PackLine}
 use Rattle.pack.specs.declared.line.PackLine.the-variants.{Begin, Drain, Idle}
 use Rattle.text.specs.declared.fields.BadField.{BadField}
-use Rattle.text.specs.Reading.{Unread, Taken, takeBy, andThen, letterIn, number32In, badAt, unreadAt, lengthCheck, endOf}
+use Rattle.text.specs.Reading.{Unread, Taken, takeBy, andThen, done, wholeLine, letterIn, number32In, badAt}
 use Rattle.text.specs.Texts.{numberOf}
-
--- no more fields are taken
-abbrev pub done : {A : Type 0} → Result A BadField → Unread → Taken A
-done r u = record { answer = r; left = u }
 
 abbrev pub beginIn : Unread → Taken PackLine
 beginIn u = andThen (takeBy numberOf u) (λ q. done (Ok (Begin (whole q))))
@@ -36,17 +32,8 @@ byLetter p x u = cond (eqb x 98) (beginIn u) (cond (eqb x 100) (drainIn u) (cond
 abbrev pub packLineIn : Unread → Taken PackLine
 packLineIn u = andThen (takeBy letterIn u) (byLetter (u .place))
 
--- an answer, unless a check refuses
-abbrev pub unless : {A : Type 0} → Result Unit BadField → Result A BadField → Result A BadField
-unless (Ok _) r = r
-unless (Err e) r = Err e
-
--- a line that is read, unless a field is left
-abbrev pub ended : Taken PackLine → Result PackLine BadField
-ended t = elim (t .answer) [ Err e ↦ Err e | Ok l ↦ unless (endOf (t .left)) (Ok l) ]
-
 abbrev pub packLineOf : List ℕ → Result PackLine BadField
-packLineOf bs = unless (lengthCheck bs) (ended (packLineIn (unreadAt bs 0)))
+packLineOf bs = wholeLine packLineIn bs
 
 abbrev pub goodLines : List ℕ → List PackLine
 goodLines bs = elim (packLineOf bs) [ Err e ↦ [] | Ok l ↦ l ∷ [] ]

@@ -14,6 +14,10 @@
 -- Taken A            an answer, and what is left to read after it
 -- takeBy p u         the next field read by p
 -- andThen t k        t, and then, unless t is refused, k on what is left
+-- done r u           the answer r, with no more fields taken
+-- unless r s         the answer s, unless the check r refuses
+-- ended t            what t answers, unless a field is left after it
+-- wholeLine p bs     what p takes from the line bs, which is not too long and has no field after it
 -- letterIn f         the field as its one byte
 -- number32In f       the field as a number that fits 32 bits
 -- endOf u            the refusal of a field that is too many
@@ -89,6 +93,19 @@ number32In f = elim (numberOf f) [ None ↦ None | Some n ↦ cond (leb n 429496
 
 abbrev pub endOf : Unread → Result Unit BadField
 endOf u = elim (u .fields) [ [] ↦ Ok tt | f ∷ fs ↦ Err (badAt (u .place)) ]
+
+abbrev pub done : {A : Type 0} → Result A BadField → Unread → Taken A
+done r u = record { answer = r; left = u }
+
+abbrev pub unless : {A : Type 0} → Result Unit BadField → Result A BadField → Result A BadField
+unless (Ok _) r = r
+unless (Err e) r = Err e
+
+abbrev pub ended : {A : Type 0} → Taken A → Result A BadField
+ended t = elim (t .answer) [ Err e ↦ Err e | Ok v ↦ unless (endOf (t .left)) (Ok v) ]
+
+abbrev pub wholeLine : {A : Type 0} → (Unread → Taken A) → List ℕ → Result A BadField
+wholeLine p bs = unless (lengthCheck bs) (ended (p (unreadAt bs 0)))
 
 pub record Parted (bs : List ℕ) (fs : List (List ℕ)) : Type 0 where
   pub joined : joinedBy space fs ≡ bs

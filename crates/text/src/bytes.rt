@@ -3,6 +3,7 @@ ghost use mathlib.Core.Path.{_≡_};
 ghost use Prim.Native.Nat.{ℕ, _+_, _^_, _<_, _≤_};
 ghost use lib.ListN.{length, drop};
 ghost use Rattle.std.specs.Options.{Cases as BySome};
+ghost use Rattle.text.specs.Reading.{number32In};
 ghost use Rattle.text.specs.Texts.{runTo, decimal, numberOf};
 
 // The index of the first such byte at or after `from`, or the length where there is none.
@@ -44,5 +45,15 @@ pub(crate) fn number_of(field: &[u8]) -> Option<u64>
         decimal_of(field)
     } else {
         None
+    }
+}
+
+// The number that 1 to 10 decimal digits write, if it fits 32 bits, and none for any other field.
+pub fn number32_of(field: &[u8]) -> Option<u32>
+    ensures { λ r. ⌜ r ≡ number32In (now (field .entry)) ⌝ }
+{
+    match number_of(field) {
+        Some(n) if n <= 4_294_967_295 => Some(n as u32),
+        _ => None,
     }
 }

@@ -3,6 +3,7 @@ mod bytes;
 mod fields;
 mod lines;
 
+pub use bytes::number32_of;
 pub use fields::BadField;
 pub use fields::BadFieldDebug;
 pub use fields::BadFieldEq;

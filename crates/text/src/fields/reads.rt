@@ -7,6 +7,7 @@ ghost use Rattle.text.specs.Texts.{numberOf};
 ghost use Rattle.text.specs.Views.{unread};
 use crate::bytes::index_of;
 use crate::bytes::number_of;
+use crate::bytes::number32_of;
 use crate::fields::BadField;
 use crate::fields::Fields;
 
@@ -77,7 +78,7 @@ impl<'a> Fields<'a> {
     {
         let place = self.place();
         match number_of(self.field()?) {
-            Some(n) => Ok(n),
+            Some(number) => Ok(number),
             None => Err(BadField { place }),
         }
     }
@@ -88,9 +89,9 @@ impl<'a> Fields<'a> {
         ensures after { λ _. ⌜ unread (now (self .exit)) ≡ pastField (unread (now (self .entry))) ⌝ }
     {
         let place = self.place();
-        match number_of(self.field()?) {
-            Some(n) if n <= 4_294_967_295 => Ok(n as u32),
-            _ => Err(BadField { place }),
+        match number32_of(self.field()?) {
+            Some(n) => Ok(n),
+            None => Err(BadField { place }),
         }
     }
 

@@ -1,0 +1,5 @@
+pub mod Limits
+pub mod Pairs
+pub mod Sheets
+pub mod Slices
+pub mod Laws

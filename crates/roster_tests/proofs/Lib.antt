@@ -1,0 +1,2 @@
+-- Why the trials' contracts hold.
+pub mod Backs

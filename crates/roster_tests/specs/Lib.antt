@@ -1,0 +1,2 @@
+-- The definitions that the trials' contracts cite.
+pub mod Pairs

@@ -1,0 +1,36 @@
+// What a group of workers holds, what its nine steps do, and what holds in every run.
+mod fault;
+mod message;
+mod promises;
+mod step;
+mod worker;
+
+pub use fault::Layer;
+pub use fault::LayerDebug;
+pub use fault::LayerEq;
+pub use fault::LayerPartialEq;
+pub use fault::Refusal;
+pub use fault::RefusalDebug;
+pub use fault::RefusalEq;
+pub use fault::RefusalPartialEq;
+pub use fault::StepFault;
+pub use fault::StepFaultDebug;
+pub use fault::StepFaultEq;
+pub use fault::StepFaultFromRoster;
+pub use fault::StepFaultPartialEq;
+pub use message::Message;
+pub use promises::agreement;
+pub use promises::equal_sheets;
+pub use promises::origin;
+pub use promises::permanence;
+pub use promises::progress;
+pub use promises::refusals;
+pub use step::Answer;
+pub use step::AnswerDebug;
+pub use step::AnswerEq;
+pub use step::AnswerPartialEq;
+pub use step::Step;
+pub use worker::Worker;
+pub use worker::WorkerDebug;
+pub use worker::WorkerEq;
+pub use worker::WorkerPartialEq;

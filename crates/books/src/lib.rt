@@ -1,4 +1,6 @@
 // Sheets worked out from the lines (log entries) that a worker (replica) of a group has learned.
+#![tactic(auto)]
+
 mod ask;
 mod channels;
 mod fault;

@@ -1,4 +1,6 @@
 // The lines of a script: commands to a group of pack books, read from text.
+#![tactic(auto)]
+
 mod command;
 mod read;
 

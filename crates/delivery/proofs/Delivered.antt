@@ -1,5 +1,5 @@
 -- What a delivery answered and did for the message that was delivered is what the definitions say of the delivery.
-use Rattle.std.proofs.Common.{◌≡◌, ℕ, ◌<◌, ltb, length, Some, Ok, Err, Option, Result, sym, ap, ◌∙◌, subst, ap₂}
+use Rattle.std.proofs.Common.{◌≡◌, ℕ, ◌<◌, ltb, length, Some, Ok, Err, Result, sym, ap, ◌∙◌, subst, ap₂}
 use Rattle.std.proofs.lemmas.Bool.{cond-true, lt-ltb}
 use Rattle.protocol.specs.declared.worker.Worker.{Worker}
 use Rattle.protocol.specs.declared.message.Message.{Message}

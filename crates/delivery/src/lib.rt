@@ -1,4 +1,6 @@
 // The step that delivers a message, by the kind of message.
+#![tactic(auto)]
+
 mod acceptor;
 mod delivers;
 mod leader;

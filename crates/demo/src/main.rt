@@ -1,4 +1,6 @@
 // Plays one whole book for a newcomer, and prints every step with what it did.
+#![tactic(auto)]
+
 mod story;
 
 use group::Group;

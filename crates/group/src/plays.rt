@@ -12,8 +12,8 @@ use roster::{Entry, Roster};
 impl<'a, L: Copy> Group<'a, L> {
     // Does one step.
     fn act<R: Roster<Entry<L>>>(&mut self, roster: &mut R, s: &Step<L>) -> Result<Answer, Refusal>
-        ensures value { result ≡ step_answer s.now (store_of self.old (model roster.old)) }
-        ensures after { store_of self.new (model roster.new) ≡ step_after s.now (store_of self.old (model roster.old)) }
+        ensures value { result ≡ step_answer s.now (store_of self.old (R.model roster.old)) }
+        ensures after { store_of self.new (R.model roster.new) ≡ step_after s.now (store_of self.old (R.model roster.old)) }
     {
         match *s {
             Step::Found(a) => self.found(roster, a),
@@ -34,17 +34,17 @@ impl<'a, L: Copy> Group<'a, L> {
         roster: &mut R,
         s: &Step<L>,
     ) -> Result<Answer, Refusal>
-        ensures value { result ≡ step_answer s.now (store_of self.old (model roster.old)) }
-        ensures after { store_of self.new (model roster.new) ≡ step_after s.now (store_of self.old (model roster.old)) }
-        ensures promise { GoesOn s.now (store_of self.old (model roster.old)) (store_of self.new (model roster.new)) }
+        ensures value { result ≡ step_answer s.now (store_of self.old (R.model roster.old)) }
+        ensures after { store_of self.new (R.model roster.new) ≡ step_after s.now (store_of self.old (R.model roster.old)) }
+        ensures promise { GoesOn s.now (store_of self.old (R.model roster.old)) (store_of self.new (R.model roster.new)) }
     {
         self.act(roster, s)
     }
 
     // Does steps one after the other, refused ones too.
     pub fn play<R: Roster<Entry<L>>>(&mut self, roster: &mut R, steps: &[Step<L>])
-        ensures after { store_of self.new (model roster.new) ≡ plays steps.now (store_of self.old (model roster.old)) }
-        ensures promise { PlaysOn steps.now (store_of self.old (model roster.old)) (store_of self.new (model roster.new)) }
+        ensures after { store_of self.new (R.model roster.new) ≡ plays steps.now (store_of self.old (R.model roster.old)) }
+        ensures promise { PlaysOn steps.now (store_of self.old (R.model roster.old)) (store_of self.new (R.model roster.new)) }
     {
         for i in 0..steps.len() {
             let _ = self.step(roster, &steps[i]);

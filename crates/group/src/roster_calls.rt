@@ -17,9 +17,9 @@ impl<'a, L: Copy> Group<'a, L> {
         roster: &mut R,
         a: usize,
     ) -> Result<Answer, Refusal>
-        ensures value { result ≡ step_answer (Found a) (store_of self.old (model roster.old)) }
-        ensures after { store_of self.new (model roster.new) ≡ step_after (Found a) (store_of self.old (model roster.old)) }
-        ensures promise { GoesOn (Found a) (store_of self.old (model roster.old)) (store_of self.new (model roster.new)) }
+        ensures value { result ≡ step_answer (Found a) (store_of self.old (R.model roster.old)) }
+        ensures after { store_of self.new (R.model roster.new) ≡ step_after (Found a) (store_of self.old (R.model roster.old)) }
+        ensures promise { GoesOn (Found a) (store_of self.old (R.model roster.old)) (store_of self.new (R.model roster.new)) }
     {
         let done = roster_steps::found(&mut self.memory, roster, a);
         told_done(a, done)
@@ -27,9 +27,9 @@ impl<'a, L: Copy> Group<'a, L> {
 
     // Worker `w` takes the entry after those that it has read.
     pub fn read<R: Roster<Entry<L>>>(&mut self, roster: &mut R, w: usize) -> Result<Answer, Refusal>
-        ensures value { result ≡ step_answer (Read w) (store_of self.old (model roster.old)) }
-        ensures after { store_of self.new (model roster.new) ≡ step_after (Read w) (store_of self.old (model roster.old)) }
-        ensures promise { GoesOn (Read w) (store_of self.old (model roster.old)) (store_of self.new (model roster.new)) }
+        ensures value { result ≡ step_answer (Read w) (store_of self.old (R.model roster.old)) }
+        ensures after { store_of self.new (R.model roster.new) ≡ step_after (Read w) (store_of self.old (R.model roster.old)) }
+        ensures promise { GoesOn (Read w) (store_of self.old (R.model roster.old)) (store_of self.new (R.model roster.new)) }
     {
         let done = roster_steps::read(&mut self.memory, roster, w);
         told_done(w, done)
@@ -37,9 +37,9 @@ impl<'a, L: Copy> Group<'a, L> {
 
     // Worker `w` makes a claim (proposal number): it appends its Lead entry, whose place is the claim.
     pub fn lead<R: Roster<Entry<L>>>(&mut self, roster: &mut R, w: usize) -> Result<Answer, Refusal>
-        ensures value { result ≡ step_answer (Lead w) (store_of self.old (model roster.old)) }
-        ensures after { store_of self.new (model roster.new) ≡ step_after (Lead w) (store_of self.old (model roster.old)) }
-        ensures promise { GoesOn (Lead w) (store_of self.old (model roster.old)) (store_of self.new (model roster.new)) }
+        ensures value { result ≡ step_answer (Lead w) (store_of self.old (R.model roster.old)) }
+        ensures after { store_of self.new (R.model roster.new) ≡ step_after (Lead w) (store_of self.old (R.model roster.old)) }
+        ensures promise { GoesOn (Lead w) (store_of self.old (R.model roster.old)) (store_of self.new (R.model roster.new)) }
     {
         let done = roster_steps::lead(&mut self.memory, roster, w);
         told_done(w, done)
@@ -52,9 +52,9 @@ impl<'a, L: Copy> Group<'a, L> {
         w: usize,
         k: usize,
     ) -> Result<Answer, Refusal>
-        ensures value { result ≡ step_answer (Carry w k) (store_of self.old (model roster.old)) }
-        ensures after { store_of self.new (model roster.new) ≡ step_after (Carry w k) (store_of self.old (model roster.old)) }
-        ensures promise { GoesOn (Carry w k) (store_of self.old (model roster.old)) (store_of self.new (model roster.new)) }
+        ensures value { result ≡ step_answer (Carry w k) (store_of self.old (R.model roster.old)) }
+        ensures after { store_of self.new (R.model roster.new) ≡ step_after (Carry w k) (store_of self.old (R.model roster.old)) }
+        ensures promise { GoesOn (Carry w k) (store_of self.old (R.model roster.old)) (store_of self.new (R.model roster.new)) }
     {
         let done = roster_steps::carry(&mut self.memory, roster, w, k);
         told_done(w, done)
@@ -67,9 +67,9 @@ impl<'a, L: Copy> Group<'a, L> {
         w: usize,
         b: usize,
     ) -> Result<Answer, Refusal>
-        ensures value { result ≡ step_answer (Reseat w b) (store_of self.old (model roster.old)) }
-        ensures after { store_of self.new (model roster.new) ≡ step_after (Reseat w b) (store_of self.old (model roster.old)) }
-        ensures promise { GoesOn (Reseat w b) (store_of self.old (model roster.old)) (store_of self.new (model roster.new)) }
+        ensures value { result ≡ step_answer (Reseat w b) (store_of self.old (R.model roster.old)) }
+        ensures after { store_of self.new (R.model roster.new) ≡ step_after (Reseat w b) (store_of self.old (R.model roster.old)) }
+        ensures promise { GoesOn (Reseat w b) (store_of self.old (R.model roster.old)) (store_of self.new (R.model roster.new)) }
     {
         let done = roster_steps::reseat(&mut self.memory, roster, w, b);
         told_done(w, done)

@@ -1,6 +1,5 @@
 -- A place at which an entry is read lies within the list, and so within the limit of all rosters: past it a read is refused.
-use Rattle.std.proofs.Common.{◌≡◌, ℕ, zero, suc, ◌-◌, ◌<◌, ◌≤◌, Bool, true, false, cond, eqb, List, [], ◌∷◌, length, Ok, Err, Result, sym, refl, ap, ◌∙◌, arith}
-use Rattle.roster.specs.declared.fault.RosterFault.{RosterFault}
+use Rattle.std.proofs.Common.{◌≡◌, ℕ, zero, suc, ◌-◌, ◌<◌, ◌≤◌, Bool, true, false, cond, eqb, List, [], ◌∷◌, length, Ok, Err, arith}
 use Rattle.roster.specs.declared.fault.RosterFault.TheVariants.{Shut, NoEntry}
 use Rattle.roster.specs.Answers.{entry_answer, read_answer}
 use Rattle.roster.specs.Limits.{entries_max}

@@ -1,4 +1,6 @@
 // A group's lent memory: making it, asking for its sizes and workers, and the calls of a roster as steps make them.
+#![tactic(auto)]
+
 mod links;
 mod making;
 mod sizes;

@@ -9,8 +9,8 @@ use roster::Roster;
 
 // Appends an entry at a place.
 pub fn enter<E, R: Roster<E>>(roster: &mut R, place: usize, item: E) -> Result<(), StepFault>
-    ensures value { result ≡ raised (append_answer (model roster.old) place) }
-    ensures after { model roster.new ≡ settled result (appended_to (Ok tt) (model roster.old) item) (model roster.old) }
+    ensures value { result ≡ raised (append_answer (R.model roster.old) place) }
+    ensures after { R.model roster.new ≡ settled result (appended_to (Ok tt) (R.model roster.old) item) (R.model roster.old) }
     ensures within { OnOk result (place ≤ entries_max) }
 {
     roster.append(place, item)?;
@@ -19,7 +19,7 @@ pub fn enter<E, R: Roster<E>>(roster: &mut R, place: usize, item: E) -> Result<(
 
 // Reads the entry at a place.
 pub fn fetch<E, R: Roster<E>>(roster: &R, place: usize) -> Result<E, StepFault>
-    ensures value { result ≡ raised (read_answer (model roster.now) place) }
+    ensures value { result ≡ raised (read_answer (R.model roster.now) place) }
     ensures within { OnOk result (place ≤ entries_max) }
 {
     let item = roster.read(place)?;

@@ -1,5 +1,5 @@
 -- A timely Proposal is delivered at its seat: the line is accepted.
-use Rattle.std.proofs.Common.{◌≡◌, ℕ, ◌<◌, ◌≤◌, true, ◌⊎◌, List, Some, None, sym, refl, subst, inl, inr, ⊎_elim, arith}
+use Rattle.std.proofs.Common.{◌≡◌, ℕ, ◌<◌, ◌≤◌, true, List, Some, None, sym, refl, subst, inl, inr, ⊎_elim, arith}
 use Rattle.roster.specs.declared.entry.Entry.{Entry}
 use Rattle.protocol.specs.Words.{At}
 use Rattle.roster.specs.declared.entry.Entry.TheVariants.{Lead as lead, Seat as seat, Carry as carry}

@@ -1,5 +1,5 @@
 -- A set of lines as a word of 64 bits, and cells of all workers as one table.
-use Rattle.std.proofs.Common.{◌≡◌, ℕ, zero, suc, ◌+◌, ◌-◌, ◌*◌, ◌/◌, ◌%◌, ◌^◌, ◌<◌, ◌≤◌, Bool, true, false, cond, eqb, ltb, leb, ◌⊎◌, List, length, get_or, set, None, Option, sym, refl, ap, ◌∙◌, subst, ap₂, ⊎_elim, zero-mul, add-one, arith, length-set}
+use Rattle.std.proofs.Common.{◌≡◌, ℕ, zero, suc, ◌+◌, ◌-◌, ◌*◌, ◌/◌, ◌%◌, ◌^◌, ◌<◌, ◌≤◌, Bool, true, false, cond, eqb, ltb, leb, List, length, get_or, set, None, Option, sym, refl, ap, ◌∙◌, subst, ap₂, ⊎_elim, zero-mul, add-one, arith, length-set}
 use mathlib.Core.Path.{fun_ext}
 use lib.Bits.{bit_or, bit_and, or_shr, or_mod, or_zero_r, and_zero_r, and_high, or_lt}
 use lib.Count.{ones, ones_cat}

@@ -14,8 +14,8 @@ use Rattle.protocol.specs.declared.worker.Worker.{Worker}
 use Rattle.protocol.specs.Faults.{worker_in, told_of}
 use Rattle.protocol.specs.Items.{item_at}
 use Rattle.protocol.specs.Store.{Store, Same, settled, plainly, after, must, asked, worker_of, may_deliver, deliver_by, deliver_result, deliver_done, step_result, step_done, step_after, step_answer}
-use Rattle.protocol.specs.Runs.{History, Run, nothing, grown, plays}
-use Rattle.protocol.specs.Promises.{SameBooks, Promised, Onward, Played, GoesOn, PlaysOn, Begins, recorded}
+use Rattle.protocol.specs.Runs.{History, Run, grown, plays}
+use Rattle.protocol.specs.Promises.{SameBooks, Promised, GoesOn, PlaysOn, recorded}
 use Rattle.protocol.specs.Runs.Run.{next}
 use Rattle.protocol.proofs.Kept.{agreement, origin, permanence, equal_sheets, some_seat, progress}
 

@@ -11,7 +11,7 @@ use Rattle.protocol.proofs.Tools.{seat?, put_here, side}
 use Rattle.protocol.specs.declared.step.Step.{Step}
 use Rattle.protocol.proofs.Model.{State, is_some, nth, does, reads, filled, Way, Progress, SomeSeat}
 use Rattle.protocol.specs.declared.step.Step.TheVariants.{Read, Propose}
-use Rattle.protocol.proofs.Prepare.{sits_ok, promised}
+use Rattle.protocol.proofs.Prepare.{sits_ok}
 use Rattle.protocol.proofs.TakeUp.{tally_part}
 use Rattle.protocol.proofs.Sound.{Sound, Extra}
 use Rattle.protocol.proofs.Steps.{some_is, read_sound}

@@ -2,7 +2,6 @@
 use Rattle.std.proofs.Common.{◌≡◌, ℕ, zero, suc, ◌+◌, ◌-◌, ◌*◌, ◌<◌, ◌≤◌, Bool, true, false, cond, not, ◌&&◌, eqb, ltb, List, [], ◌∷◌, ◌++◌, length, get_or, Some, None, Ok, Err, Option, Result, sym, refl, ap, ◌∙◌, ap₂, add-one, arith}
 use lib.Dec.{leb-suc-zero, leb-suc-suc}
 use Rattle.std.proofs.lemmas.Bool.{both_ways, and_from, le-leb, lt-ltb, eq-eqb, ne_eqb, cond-true, cond-false, ltb-true}
-use Rattle.roster.specs.declared.entry.Entry.TheVariants.{Seat as seat}
 use Rattle.roster.specs.declared.fault.RosterFault.{RosterFault}
 use Rattle.roster.specs.declared.fault.RosterFault.TheVariants.{Shut, NotNext, Full, NoEntry}
 use Rattle.roster.specs.Answers.{read_answer, entry_answer}
@@ -16,7 +15,6 @@ use Rattle.protocol.specs.declared.message.Message.TheVariants.{Prepare as Prepa
 use Rattle.protocol.specs.declared.step.Answer.{Answer}
 use Rattle.protocol.specs.declared.step.Step.{Step}
 use Rattle.protocol.specs.declared.step.Step.TheVariants.{Found, Read, Lead, Prepare, Propose, Carry, Reseat, Deliver, Lose}
-use Rattle.protocol.proofs.Roles.{sits}
 use Rattle.protocol.proofs.Model.{Asks, refusal, is_some, nth, asks, appending, delivering, line_ok, leader_all_marked, report_all, report_line}
 use Rattle.protocol.specs.Faults.{number}
 use Rattle.protocol.specs.Items.{item_at}

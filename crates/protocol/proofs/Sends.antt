@@ -1,5 +1,5 @@
 -- A Propose and a delivery keep what holds.
-use Rattle.std.proofs.Common.{◌≡◌, ℕ, zero, suc, ◌-◌, ◌<◌, ◌≤◌, true, cond, ◌⊎◌, List, ◌∷◌, Some, None, Option, sym, refl, subst, inl, inr, ⊎_elim}
+use Rattle.std.proofs.Common.{◌≡◌, ℕ, zero, suc, ◌<◌, ◌≤◌, true, cond, List, ◌∷◌, Some, None, Option, sym, refl, subst, inl, inr, ⊎_elim}
 use Rattle.protocol.specs.Words.{At, Proposed}
 use Rattle.roster.specs.declared.entry.Entry.TheVariants.{Seat as seat}
 use Rattle.protocol.proofs.Inv.{Facts, Add, SeatedOk, MsgOk, Upto, HasPromised, LeaderOk}

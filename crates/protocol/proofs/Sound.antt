@@ -1,5 +1,5 @@
 -- What holds in every run.
-use Rattle.std.proofs.Common.{◌≡◌, ℕ, zero, suc, ◌+◌, ◌-◌, ◌<◌, ◌≤◌, true, cond, ◌⊎◌, List, [], ◌∷◌, ◌++◌, length, take, set, Some, None, sym, refl, ◌∙◌, subst, ⊎_elim}
+use Rattle.std.proofs.Common.{◌≡◌, ℕ, zero, suc, ◌<◌, ◌≤◌, true, cond, List, [], ◌∷◌, ◌++◌, length, take, set, Some, None, sym, refl, ◌∙◌, subst, ⊎_elim}
 use Rattle.std.proofs.lemmas.Bool.{cases_Bool}
 use Rattle.roster.specs.declared.entry.Entry.{Entry}
 use Rattle.protocol.specs.Words.{At, Proposed, under}
@@ -11,7 +11,6 @@ use Rattle.protocol.proofs.Roles.{Leader}
 use Rattle.protocol.proofs.Tools.{put_both, none_not_some, some_same}
 use Rattle.protocol.proofs.Model.{State, Asks, refusal, nth, with_leader, with_msgs, append}
 use Rattle.protocol.proofs.Grow.{Fresh, grow_global, grow_leader, grow_seated, grow_msg}
-use Rattle.protocol.proofs.Prepare.{promised}
 
 abbrev pub Each : {X : Type 0} → (X → Type 0) → List X → Type 0
 Each Φ [] = Unit {0}

@@ -6,12 +6,12 @@
 -- Onward, Played      a step, or any steps, on a store of a run: the longer run, and all promises of the store that they leave
 -- GoesOn, PlaysOn     the same from whatever run led to the store
 -- Begins              a store begins a run
-use Rattle.std.specs.Prelude.{◌≡◌, ℕ, zero, suc, ◌+◌, ◌-◌, ◌*◌, ◌<◌, ◌≤◌, Bool, true, false, cond, List, [], ◌∷◌, ◌++◌, length, replicate, Some, None, Option, ◌≢◌}
-use Rattle.roster.specs.Model.{RosterState, readable, appendable}
+use Rattle.std.specs.Prelude.{◌≡◌, ℕ, ◌+◌, ◌<◌, ◌≤◌, true, List, [], ◌∷◌, length, Some, ◌≢◌}
+use Rattle.roster.specs.Model.{readable, appendable}
 use Rattle.protocol.specs.declared.step.Step.{Step}
 use Rattle.protocol.specs.Limits.{lines}
 use Rattle.protocol.specs.Words.{Proposed, accepted-under, Newest}
-use Rattle.protocol.specs.Store.{Store, worker_of, step_after}
+use Rattle.protocol.specs.Store.{Store, step_after}
 use Rattle.protocol.specs.Runs.{History, Run, Event, Way, holds, happen, book_to, unread, grown, nothing}
 
 module _ {L : Type 0} where

@@ -9,7 +9,7 @@
 -- book_to g w j        the lines 1 to j, where worker w holds them all
 -- Way                 a list of steps to line k
 -- Agreement, Origin, Permanence, EqualSheets, Progress: the promises
-use Rattle.std.specs.Prelude.{◌≡◌, ℕ, zero, suc, ◌+◌, ◌-◌, ◌*◌, ◌<◌, ◌≤◌, Bool, true, false, cond, List, [], ◌∷◌, ◌++◌, length, replicate, is_ok, Some, None, Ok, Err, Option, Result, ◌≢◌}
+use Rattle.std.specs.Prelude.{◌≡◌, ℕ, zero, suc, ◌+◌, ◌-◌, ◌*◌, ◌<◌, ◌≤◌, true, false, cond, List, [], ◌∷◌, ◌++◌, length, replicate, is_ok, Some, None, Ok, Err, Option, Result, ◌≢◌}
 use Rattle.roster.specs.Model.{RosterState, readable, appendable}
 use Rattle.protocol.specs.declared.message.Message.{Message}
 use Rattle.protocol.specs.declared.message.Message.TheVariants.{Prepare as prepare, Proposal as proposal, Promise as promise, Report as report, Learn as learn}

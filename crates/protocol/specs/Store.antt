@@ -12,7 +12,7 @@
 -- step_after s g       the store after the step s, refused or not: a refused step changes nothing
 -- step_answer s g      what is told to the caller
 -- Each step gets the questions that concern it, in the order of their numbers.
-use Rattle.std.specs.Prelude.{◌≡◌, ℕ, zero, suc, ◌+◌, ◌-◌, ◌*◌, ◌^◌, Bool, true, false, cond, not, ◌&&◌, ◌||◌, List, [], ◌∷◌, ◌++◌, length, take, set, replicate, Some, None, Ok, Err, Option, Result, ◌==◌, bit_or, count_ones, nat_lt, slice_index_or, slice_set}
+use Rattle.std.specs.Prelude.{◌≡◌, ℕ, zero, suc, ◌+◌, ◌-◌, ◌*◌, Bool, true, false, cond, not, ◌&&◌, ◌||◌, List, [], ◌∷◌, ◌++◌, length, take, replicate, Some, None, Ok, Err, Option, Result, ◌==◌, bit_or, count_ones, nat_lt, slice_index_or, slice_set}
 use Rattle.roster.specs.declared.entry.Entry.{Entry}
 use Rattle.roster.specs.declared.entry.Entry.TheVariants.{Lead as lead, Seat as seat, Carry as carry}
 use Rattle.roster.specs.declared.fault.RosterFault.{RosterFault}

@@ -1,4 +1,6 @@
 // What a group of workers holds, what its nine steps do, and what holds in every run.
+#![tactic(auto)]
+
 mod fault;
 mod message;
 mod promises;

@@ -1,4 +1,6 @@
 // What the lines of a script do to a group of pack books, and what is shown of it.
+#![tactic(auto)]
+
 mod run;
 mod show;
 

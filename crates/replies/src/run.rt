@@ -36,8 +36,8 @@ fn run_step<R: Roster<Entry<StoredPackLine>>>(
     roster: &mut R,
     step: &Step<StoredPackLine>,
 ) -> Reply
-    ensures value { result ≡ step_reply (step_answer step.now (store_of group.old (model roster.old))) }
-    ensures after { store_of group.new (model roster.new) ≡ step_after step.now (store_of group.old (model roster.old)) }
+    ensures value { result ≡ step_reply (step_answer step.now (store_of group.old (R.model roster.old))) }
+    ensures after { store_of group.new (R.model roster.new) ≡ step_after step.now (store_of group.old (R.model roster.old)) }
 {
     match group.step(roster, step) {
         Ok(Answer::Done) => Reply::Done,
@@ -63,8 +63,8 @@ fn run_command<R: Roster<Entry<StoredPackLine>>>(
     roster: &mut R,
     command: &Command,
 ) -> Reply
-    ensures value { result ≡ reply_to (store_of group.old (model roster.old)) command.now }
-    ensures after { store_of group.new (model roster.new) ≡ store_after (store_of group.old (model roster.old)) command.now }
+    ensures value { result ≡ reply_to (store_of group.old (R.model roster.old)) command.now }
+    ensures after { store_of group.new (R.model roster.new) ≡ store_after (store_of group.old (R.model roster.old)) command.now }
 {
     match *command {
         Command::Do(step) => run_step(group, roster, &step),
@@ -78,9 +78,9 @@ pub fn run_line<R: Roster<Entry<StoredPackLine>>>(
     roster: &mut R,
     line: &[u8],
 ) -> Reply
-    ensures value { result ≡ reply_of (store_of group.old (model roster.old)) line.now }
-    ensures after { store_of group.new (model roster.new) ≡ store_on (store_of group.old (model roster.old)) line.now }
-    ensures promise { LineGoesOn line.now (store_of group.old (model roster.old)) (store_of group.new (model roster.new)) }
+    ensures value { result ≡ reply_of (store_of group.old (R.model roster.old)) line.now }
+    ensures after { store_of group.new (R.model roster.new) ≡ store_on (store_of group.old (R.model roster.old)) line.now }
+    ensures promise { LineGoesOn line.now (store_of group.old (R.model roster.old)) (store_of group.new (R.model roster.new)) }
 {
     match read_command(line) {
         Ok(command) => run_command(group, roster, &command),

@@ -1,4 +1,6 @@
 // The roster (configuration log): its entries, its faults, its meaning, the plain roster, and sequences of calls.
+#![tactic(auto)]
+
 mod entry;
 mod fault;
 mod meaning;

@@ -15,7 +15,7 @@ pub enum Call<E> {
 
 // Makes one call; its answer is let go.
 fn make_call<E: Copy, R: Roster<E>>(roster: &mut R, call: &Call<E>)
-    ensures { model roster.new ≡ after_call call.now (model roster.old) }
+    ensures { R.model roster.new ≡ after_call call.now (R.model roster.old) }
 {
     match *call {
         Call::Append(place, item) => {
@@ -30,8 +30,8 @@ fn make_call<E: Copy, R: Roster<E>>(roster: &mut R, call: &Call<E>)
 // Makes the calls one after the other; refused ones change nothing. Entries that stand in the roster stay at their
 // places, and the list stays within its capacity.
 pub fn play<E: Copy, R: Roster<E>>(roster: &mut R, calls: &[Call<E>])
-    ensures after { model roster.new ≡ after_calls calls.now (model roster.old) }
-    ensures grown { Grown (model roster.old) (model roster.new) }
+    ensures after { R.model roster.new ≡ after_calls calls.now (R.model roster.old) }
+    ensures grown { Grown (R.model roster.old) (R.model roster.new) }
     ensures law { EntriesStay E }
 {
     for i in 0..calls.len() {

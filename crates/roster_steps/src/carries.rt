@@ -69,8 +69,8 @@ pub fn carry<L: Copy, R: Roster<Entry<L>>>(
     w: usize,
     k: usize,
 ) -> Result<(), StepFault>
-    ensures value { result ≡ carry_result w k (store_in group.old (model roster.old)) }
-    ensures after { Same (store_in group.new (model roster.new)) (settled result (carry_done w k (store_in group.old (model roster.old))) (store_in group.old (model roster.old))) }
+    ensures value { result ≡ carry_result w k (store_in group.old (R.model roster.old)) }
+    ensures after { Same (store_in group.new (R.model roster.new)) (settled result (carry_done w k (store_in group.old (R.model roster.old))) (store_in group.old (R.model roster.old))) }
 {
     let x = group.worker(w)?;
     may_carry(x, k)?;
@@ -114,8 +114,8 @@ pub fn reseat<L: Copy, R: Roster<Entry<L>>>(
     w: usize,
     b: usize,
 ) -> Result<(), StepFault>
-    ensures value { result ≡ reseat_result w b (store_in group.old (model roster.old)) }
-    ensures after { Same (store_in group.new (model roster.new)) (settled result (reseat_done w b (store_in group.old (model roster.old))) (store_in group.old (model roster.old))) }
+    ensures value { result ≡ reseat_result w b (store_in group.old (R.model roster.old)) }
+    ensures after { Same (store_in group.new (R.model roster.new)) (settled result (reseat_done w b (store_in group.old (R.model roster.old))) (store_in group.old (R.model roster.old))) }
 {
     let x = group.worker(w)?;
     let marks = group.hand.all_in(w, x.carried);

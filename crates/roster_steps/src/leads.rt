@@ -13,8 +13,8 @@ pub fn found<L: Copy, R: Roster<Entry<L>>>(
     roster: &mut R,
     a: usize,
 ) -> Result<(), StepFault>
-    ensures value { result ≡ found_result a (store_in group.old (model roster.old)) }
-    ensures after { Same (store_in group.new (model roster.new)) (settled result (found_done a (store_in group.old (model roster.old))) (store_in group.old (model roster.old))) }
+    ensures value { result ≡ found_result a (store_in group.old (R.model roster.old)) }
+    ensures after { Same (store_in group.new (R.model roster.new)) (settled result (found_done a (store_in group.old (R.model roster.old))) (store_in group.old (R.model roster.old))) }
 {
     let _x = group.worker(a)?;
     enter(roster, 1, Entry::Seat(a))?;
@@ -40,8 +40,8 @@ pub fn lead<L: Copy, R: Roster<Entry<L>>>(
     roster: &mut R,
     w: usize,
 ) -> Result<(), StepFault>
-    ensures value { result ≡ lead_result w (store_in group.old (model roster.old)) }
-    ensures after { Same (store_in group.new (model roster.new)) (settled result (lead_done w (store_in group.old (model roster.old))) (store_in group.old (model roster.old))) }
+    ensures value { result ≡ lead_result w (store_in group.old (R.model roster.old)) }
+    ensures after { Same (store_in group.new (R.model roster.new)) (settled result (lead_done w (store_in group.old (R.model roster.old))) (store_in group.old (R.model roster.old))) }
 {
     let x = group.worker(w)?;
     may_lead(x, w)?;

@@ -1,4 +1,6 @@
 // The five steps that read or append to the roster: Found, Read, Lead, Carry and Reseat.
+#![tactic(auto)]
+
 mod carries;
 mod leads;
 mod reads;

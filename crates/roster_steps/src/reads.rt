@@ -56,8 +56,8 @@ pub fn read<L: Copy, R: Roster<Entry<L>>>(
     roster: &mut R,
     w: usize,
 ) -> Result<(), StepFault>
-    ensures value { result ≡ read_result w (store_in group.old (model roster.old)) }
-    ensures after { Same (store_in group.new (model roster.new)) (settled result (read_done w (store_in group.old (model roster.old))) (store_in group.old (model roster.old))) }
+    ensures value { result ≡ read_result w (store_in group.old (R.model roster.old)) }
+    ensures after { Same (store_in group.new (R.model roster.new)) (settled result (read_done w (store_in group.old (R.model roster.old))) (store_in group.old (R.model roster.old))) }
 {
     let x = group.worker(w)?;
     let entry = fetch(roster, x.mark as usize + 1)?;

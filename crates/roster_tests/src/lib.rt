@@ -1,4 +1,6 @@
 // Trials of the roster: a caller that is generic in the roster, and tests of the plain roster.
+#![tactic(auto)]
+
 pub mod lends;
 pub mod pairs;
 

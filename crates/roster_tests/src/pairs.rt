@@ -12,8 +12,8 @@ pub fn append_pair<R: Roster<Entry<u32>>>(
     first: Entry<u32>,
     second: Entry<u32>,
 ) -> Result<Entry<u32>, RosterFault>
-    ensures value { result ≡ pair_answer (model roster.old) place first second }
-    ensures after { model roster.new ≡ pair_after (model roster.old) place first second }
+    ensures value { result ≡ pair_answer (R.model roster.old) place first second }
+    ensures after { R.model roster.new ≡ pair_after (R.model roster.old) place first second }
     ensures back { IfOk result (λ e. e ≡ first) }
 {
     roster.append(place, first)?;

@@ -1,4 +1,6 @@
 // Plays a book of pack lines from a script on standard input, and prints what each line did.
+#![tactic(auto)]
+
 use commands::read_setup;
 use group::Group;
 use pack::StoredPackLine;

@@ -1,7 +1,6 @@
 -- Clearing one cell more.
 use Rattle.std.proofs.Common.{◌≡◌, ℕ, ◌+◌, ◌*◌, true, false, List, set, None, Option, refl, ap, ◌∙◌, add-one}
-use lib.Bits.{bit_and}
-use Rattle.std.proofs.lemmas.Bool.{cond-true, cond-false, lt-ltb, le-ltb}
+use Rattle.std.proofs.lemmas.Bool.{cond-true, cond-false}
 use Rattle.protocol.specs.Lines.{marked}
 use Rattle.protocol.specs.Store.{cleared}
 

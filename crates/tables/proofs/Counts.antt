@@ -1,8 +1,7 @@
 -- Counting and reporting one cell more, and how many Reports there are.
-use Rattle.std.proofs.Common.{◌≡◌, ℕ, zero, suc, ◌+◌, ◌-◌, ◌*◌, ◌<◌, ◌≤◌, ◌⊎◌, List, [], ◌∷◌, ◌++◌, length, get_or, Some, None, Option, sym, refl, ap, ◌∙◌, inl, inr, ⊎_elim, add-zero, add-suc, add-one, arith}
+use Rattle.std.proofs.Common.{◌≡◌, ℕ, zero, suc, ◌+◌, ◌-◌, ◌*◌, ◌<◌, ◌≤◌, List, [], ◌∷◌, ◌++◌, length, get_or, Some, None, Option, sym, refl, ap, ◌∙◌, add-zero, add-suc, add-one, arith}
 use Rattle.protocol.specs.declared.message.Message.TheVariants.{Report}
-use Rattle.std.proofs.lemmas.List.{get_or_read, append_assoc, append-nil}
-use Rattle.std.proofs.lemmas.Bool.{cases_lt}
+use Rattle.std.proofs.lemmas.List.{get_or_read, append-nil}
 use Rattle.protocol.specs.declared.message.Message.{Message}
 use Rattle.protocol.specs.Store.{lines_in, reports, report_of, held}
 

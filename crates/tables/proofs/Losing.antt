@@ -1,5 +1,5 @@
 -- A list whose last item is moved, in the table that it lies in.
-use Rattle.std.proofs.Common.{◌≡◌, ℕ, zero, suc, ◌+◌, ◌-◌, ◌<◌, ◌≤◌, List, [], ◌∷◌, length, take, set, Some, Option, sym, refl, ap, ◌∙◌, ap₂, arith, length-take}
+use Rattle.std.proofs.Common.{◌≡◌, ℕ, zero, suc, ◌-◌, ◌<◌, ◌≤◌, List, [], ◌∷◌, length, take, set, Some, Option, sym, refl, ap, ◌∙◌, arith, length-take}
 use Rattle.protocol.specs.Store.{lost_at}
 
 module _ {X : Type 0} where

@@ -7,10 +7,10 @@ use Rattle.books.proofs.Gaps.{none_of}
 use Rattle.books.proofs.Working.{all-worked, not_asked, one_missing, one_there}
 use Rattle.books.proofs.ask.ask_to.Goals as goal
 
-pub returns-in-err-ask : goal.returns-in-err-ask
-returns-in-err-ask g c m =
+pub returns-in_err-ask : goal.returns-in_err-ask
+returns-in_err-ask g c m =
     let p = err_from_is_err_and c.from-residual.result c.from-residual.ensures.1 in
-    rw (p.1, p.2) (not_asked no_sheet (store_of c.args.group.now m) c.args.worker c.args.to _ (c.in-err-ask.ensures m))
+    rw (p.1, p.2) (not_asked no_sheet (store_of c.args.group.now m) c.args.worker c.args.to _ (c.in_err-ask.ensures m))
 
 pub loop-i-init : goal.loop-i-init
 loop-i-init g c m = refl
@@ -21,9 +21,9 @@ loop-i-preserved g c m =
 
 pub returns-then-is-none : goal.returns-then-is-none
 returns-then-is-none g c m =
-    one_missing no_sheet (store_of c.args.group.now m) c.args.worker c.loop-i.i c.args.to (c.in-ok-ask.ensures m)
+    one_missing no_sheet (store_of c.args.group.now m) c.args.worker c.loop-i.i c.args.to (c.in_ok-ask.ensures m)
     (sym (none_of c.line.result c.if-is-none.ensures) ∙ c.line.ensures m) c.loop-i-test.true
 
 pub returns : goal.returns
 returns g c m =
-    all-worked no_sheet (store_of c.args.group.now m) c.args.worker c.loop-i.i c.args.to tt (c.in-ok-ask.ensures m) (omega arith) (c.loop-i.invariant m)
+    all-worked no_sheet (store_of c.args.group.now m) c.args.worker c.loop-i.i c.args.to tt (c.in_ok-ask.ensures m) (omega arith) (c.loop-i.invariant m)

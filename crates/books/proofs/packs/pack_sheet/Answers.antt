@@ -8,6 +8,6 @@ use Rattle.books.proofs.packs.pack_sheet.Goals as goal
 pub returns : goal.returns
 returns c =
     record {
-      value = λ m. c.told.ensures ∙ ap (told_sheet c.args.worker) (c.worked-out.ensures m);
+      value = λ m. c.told.ensures ∙ ap (told_sheet c.args.worker) (c.worked_out.ensures m);
       equal = λ m. equal_packs (store_of c.args.group.now m) c.args.worker c.args.to;
     }

@@ -8,10 +8,10 @@ use Rattle.books.specs.Sheets.{packs_of}
 use Rattle.books.proofs.Working.{all-worked, not_asked, one_missing, packs_last, works_on}
 use Rattle.books.proofs.packs.worked_out.Goals as goal
 
-pub returns-in-err-ask : goal.returns-in-err-ask
-returns-in-err-ask c m =
+pub returns-in_err-ask : goal.returns-in_err-ask
+returns-in_err-ask c m =
     let p = err_from_is_err_and c.from-residual.result c.from-residual.ensures.1 in
-    rw (p.1, p.2) (not_asked packs_of (store_of c.args.group.now m) c.args.worker c.args.to _ (c.in-err-ask.ensures m))
+    rw (p.1, p.2) (not_asked packs_of (store_of c.args.group.now m) c.args.worker c.args.to _ (c.in_err-ask.ensures m))
 
 pub loop-i-init : goal.loop-i-init
 loop-i-init c m = ap Ok c.new-sheet.ensures
@@ -23,8 +23,8 @@ loop-i-preserved c m =
 
 pub returns-in-None : goal.returns-in-None
 returns-in-None c m =
-    one_missing packs_of (store_of c.args.group.now m) c.args.worker c.loop-i.i c.args.to (c.in-ok-ask.ensures m) (c.in-None.ensures m) c.loop-i-test.true
+    one_missing packs_of (store_of c.args.group.now m) c.args.worker c.loop-i.i c.args.to (c.in_ok-ask.ensures m) (c.in-None.ensures m) c.loop-i-test.true
 
 pub returns : goal.returns
 returns c m =
-    all-worked packs_of (store_of c.args.group.now m) c.args.worker c.loop-i.i c.args.to c.loop-i.sheet (c.in-ok-ask.ensures m) (omega arith) (c.loop-i.invariant m)
+    all-worked packs_of (store_of c.args.group.now m) c.args.worker c.loop-i.i c.args.to c.loop-i.sheet (c.in_ok-ask.ensures m) (omega arith) (c.loop-i.invariant m)

@@ -1,5 +1,5 @@
 -- Under a later entry there is no accepted line yet.
-use Rattle.std.proofs.Common.{◌≡◌, sym, ap, ◌∙◌, arith}
+use Rattle.std.proofs.Common.{sym, ap, ◌∙◌, arith}
 use Rattle.std.proofs.lemmas.Bool.{cond-true, lt-ltb}
 use Rattle.protocol.specs.Limits.{lines}
 use Rattle.protocol.specs.Store.{lines_in, cleared}

@@ -9,7 +9,7 @@ returns-in-Ok g c =
     let s = store_of c.args.group.now (g.R.Roster.model c.args.roster.now) in
     let bs = c.args.line.now in
     let e = c.in-Ok.ensures in
-    let d = c.run-command.ensures in
+    let d = c.run_command.ensures in
     let a = store_read s bs (Ok c.in-Ok.command) e _ d.after in
     record { value = reply_read s bs (Ok c.in-Ok.command) e _ d.value; after = a; promise = line_goes_on bs s _ a }
 

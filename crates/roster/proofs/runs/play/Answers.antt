@@ -7,7 +7,7 @@ use Rattle.roster.proofs.runs.play.Goals as goal
 
 pub loop-i-preserved : goal.loop-i-preserved
 loop-i-preserved g c =
-    calls_more c.args.calls.now c.loop-i.i c.index-calls-i.result _ _ c.loop-i-test.true c.index-calls-i.is c.make-call.ensures
+    calls_more c.args.calls.now c.loop-i.i c.index-calls-i.result _ _ c.loop-i-test.true c.index-calls-i.is c.make_call.ensures
     ∙ c.loop-i.invariant
 
 pub returns : goal.returns

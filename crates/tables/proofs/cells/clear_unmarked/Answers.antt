@@ -1,5 +1,5 @@
 -- One cell more in each turn, by whether its line is in the set.
-use Rattle.std.proofs.Common.{◌≡◌, ◌+◌, ◌*◌, set, None, sym, ap, ◌∙◌}
+use Rattle.std.proofs.Common.{◌+◌, ◌*◌, set, None, sym, ap, ◌∙◌}
 use Rattle.tables.proofs.Clears.{cleared-none, cleared-kept, cleared_gone}
 use Rattle.tables.proofs.cells.clear_unmarked.Goals as goal
 use Rattle.tables.proofs.cells.clear_unmarked.Goals.{then-not-has, else-not-has}

@@ -1,5 +1,5 @@
 -- The lines of the cells so far are reported, and the others are left.
-use Rattle.std.proofs.Common.{◌≡◌, ◌+◌, ◌≤◌, ◌++◌, length, take}
+use Rattle.std.proofs.Common.{◌≡◌, ◌+◌, ◌++◌, length, take}
 use Rattle.protocol.specs.Limits.{lines}
 use Rattle.protocol.specs.Store.{lines_in, reports}
 use Rattle.tables.proofs.counted.send_all.Given as goal

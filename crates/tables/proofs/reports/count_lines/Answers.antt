@@ -1,6 +1,6 @@
 -- One cell more in each turn, by whether it has a line.
-use Rattle.std.proofs.Common.{◌≡◌, ◌+◌, ◌*◌, ◌<◌, length, sym, ap, ◌∙◌, arith}
-use Rattle.protocol.specs.Store.{lines_in, held}
+use Rattle.std.proofs.Common.{sym, ap, arith}
+use Rattle.protocol.specs.Store.{held}
 use Rattle.tables.proofs.Counts.{lines_none, lines_more}
 use Rattle.tables.proofs.reports.count_lines.Goals as goal
 use Rattle.tables.proofs.reports.count_lines.Goals.{in-Some, in-None}

@@ -1,8 +1,8 @@
 -- One cell more in each turn; the room that was asked for is enough for all of them.
-use Rattle.std.proofs.Common.{◌≡◌, ◌+◌, ◌*◌, ◌<◌, [], ◌∷◌, ◌++◌, length, take, sym, refl, ap, ◌∙◌, arith}
+use Rattle.std.proofs.Common.{◌+◌, ◌*◌, ◌<◌, [], ◌∷◌, ◌++◌, length, take, sym, refl, ap, ◌∙◌, arith}
 use Rattle.std.proofs.lemmas.List.{append-nil, append_assoc}
 use Rattle.protocol.specs.declared.message.Message.TheVariants.{Report}
-use Rattle.protocol.specs.Store.{lines_in, reports}
+use Rattle.protocol.specs.Store.{reports}
 use Rattle.tables.proofs.Counts.{lines_some, lines_mono, reports-none, reports_some, reports-empty, sent_length}
 use Rattle.tables.proofs.reports.send_reports.Goals as goal
 use Rattle.tables.proofs.reports.send_reports.Goals.{in-Some, in-None}

@@ -1,5 +1,5 @@
 -- The lines of the cells so far are reported.
-use Rattle.std.proofs.Common.{◌≡◌, ◌+◌, ◌≤◌, ◌++◌, length, take}
+use Rattle.std.proofs.Common.{◌≡◌, ◌++◌, length, take}
 use Rattle.protocol.specs.Store.{reports}
 use Rattle.tables.proofs.reports.send_reports.Given as goal
 

@@ -16,7 +16,7 @@ returns g c =
     let i = c.args.m in
     let w = c.args.w in
     let old = store_of c.args.self.now no_roster in
-    let s : (m : RosterModel (Entry g.row.L.Denot)) → Stepped (Deliver c.args.m c.args.w) (store_of c.args.self.now m) (store_of (record { memory = c.deliver-done.new.group }) m) c.told-done.result =
-    λ m. done (Deliver c.args.m c.args.w) _ _ r c.told-done.result (ap plainly (e.value ∙ result_beside m i w old)) c.told-done.ensures
+    let s : (m : RosterModel (Entry g.row.L.Denot)) → Stepped (Deliver c.args.m c.args.w) (store_of c.args.self.now m) (store_of (record { memory = c.deliver-done.new.group }) m) c.told_done.result =
+    λ m. done (Deliver c.args.m c.args.w) _ _ r c.told_done.result (ap plainly (e.value ∙ result_beside m i w old)) c.told_done.ensures
     (moved r _ (beside m (deliver_done i w old)) (deliver_done i w (beside m old)) (beside m old) (done_beside m i w old) (widened m r _ (deliver_done i w old) old e.after)) in
     record { value = λ m. (s m).value; after = λ m. (s m).after; promise = λ m. (s m).promise }

@@ -8,5 +8,5 @@ use Rattle.group.proofs.state.Group.found.Goals as goal
 pub returns : goal.returns
 returns g c =
     let e = c.found-done.ensures in
-    let s = done (Found c.args.a) _ _ c.found-done.result c.told-done.result (ap plainly e.value) c.told-done.ensures e.after in
+    let s = done (Found c.args.a) _ _ c.found-done.result c.told_done.result (ap plainly e.value) c.told_done.ensures e.after in
     record { value = s.value; after = s.after; promise = s.promise }

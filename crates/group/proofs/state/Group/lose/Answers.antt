@@ -13,6 +13,6 @@ pub returns : goal.returns
 returns g c =
     let e = c.lose-done.ensures in
     let old = store_of c.args.self.now no_roster in
-    let s : (m : RosterModel (Entry g.row.L.Denot)) → Stepped (Lose c.args.m) (store_of c.args.self.now m) (store_of (record { memory = c.lose-done.new.group }) m) c.told-done.result =
-    λ m. done (Lose c.args.m) _ _ c.lose-done.result c.told-done.result (ap plainly e.value) c.told-done.ensures (widened m c.lose-done.result _ (lose_done c.args.m old) old e.after) in
+    let s : (m : RosterModel (Entry g.row.L.Denot)) → Stepped (Lose c.args.m) (store_of c.args.self.now m) (store_of (record { memory = c.lose-done.new.group }) m) c.told_done.result =
+    λ m. done (Lose c.args.m) _ _ c.lose-done.result c.told_done.result (ap plainly e.value) c.told_done.ensures (widened m c.lose-done.result _ (lose_done c.args.m old) old e.after) in
     record { value = λ m. (s m).value; after = λ m. (s m).after; promise = λ m. (s m).promise }

@@ -8,5 +8,5 @@ use Rattle.group.proofs.state.Group.read.Goals as goal
 pub returns : goal.returns
 returns g c =
     let e = c.read-done.ensures in
-    let s = done (Read c.args.w) _ _ c.read-done.result c.told-done.result (ap plainly e.value) c.told-done.ensures e.after in
+    let s = done (Read c.args.w) _ _ c.read-done.result c.told_done.result (ap plainly e.value) c.told_done.ensures e.after in
     record { value = s.value; after = s.after; promise = s.promise }

@@ -5,13 +5,13 @@ use Rattle.protocol.specs.Items.{item_at}
 use Rattle.tables.proofs.Losing.{inside, lost}
 use Rattle.tables.proofs.lent.LentList.lose.Goals as goal
 
-pub put-at-requires : goal.put-at-requires
-put-at-requires g c = let s = c.args.self.now in inside s.len c.args.m s.table.now c.requires
+pub put_at-requires : goal.put_at-requires
+put_at-requires g c = let s = c.args.self.now in inside s.len c.args.m s.table.now c.requires
 
 pub returns : goal.returns
 returns g c =
     let s = c.args.self.now in
-    let e = c.put-at.ensures in
+    let e = c.put_at.ensures in
     let n = c.len-n.ensures in
     record {
       items = ap (take _) e ∙ lost s.table.now s.len c.len-n.result c.args.m c.get-last.result _ n (ap (λ i. item_at (take s.len s.table.now) (i - 1)) (sym n) ∙ c.get-last.ensures);

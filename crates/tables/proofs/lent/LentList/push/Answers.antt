@@ -7,16 +7,16 @@ use Rattle.tables.proofs.lent.LentList.push.Goals as goal
 inside : {X : Type 0} (n : ℕ) (t : List X) → length (take n t) < length t → n < length t
 inside n t h = let e = length-take n t in omega arith
 
-pub put-at-requires : goal.put-at-requires
-put-at-requires g c = let s = c.args.self.now in inside s.len s.table.now c.requires
+pub put_at-requires : goal.put_at-requires
+put_at-requires g c = let s = c.args.self.now in inside s.len s.table.now c.requires
 
-pub overflow-add-self : goal.overflow-add-self
-overflow-add-self g c = let s = c.args.self.now in let h = inside s.len s.table.now c.requires in omega arith
+pub overflow_add-self : goal.overflow_add-self
+overflow_add-self g c = let s = c.args.self.now in let h = inside s.len s.table.now c.requires in omega arith
 
 pub returns : goal.returns
 returns g c =
     let s = c.args.self.now in
-    let e = c.put-at.ensures in
+    let e = c.put_at.ensures in
     record {
       items = ap (take _) e ∙ take_more_set s.table.now s.len c.args.item (inside s.len s.table.now c.requires);
       places = ap length e ∙ length-set s.table.now s.len c.args.item;

@@ -11,9 +11,9 @@ returns g c =
     let s = c.args.self.now in
     let t = s.table.now in
     let e : length (take s.len t) ≡ s.len = length-take-le s.len t s.fits in
-    let x = c.entry-at.result in
+    let x = c.entry_at.result in
     record {
-      value = ap Ok (c.entry-at.ensures ∙ sym (get_or-take s.len t (c.args.place - 1) x (omega arith)))
+      value = ap Ok (c.entry_at.ensures ∙ sym (get_or-take s.len t (c.args.place - 1) x (omega arith)))
           ∙ sym (read_at (plain_model s) c.args.place x refl c.if-place-eq0.false (omega arith));
       within = plain_bounded s;
     }

@@ -2,8 +2,6 @@
 use Rattle.std.proofs.Common.{◌≡◌, ℕ, zero, suc, ◌≤◌, Bool, true, false, cond, List, [], ◌∷◌, length, get_or, replicate, None, Err, Option, sym, refl, ap, ◌∙◌, arith}
 use lib.ListN.{length-replicate}
 use Rattle.std.proofs.lemmas.Bool.{cond-true, cond_both}
-use Rattle.roster.specs.declared.entry.Entry.{Entry}
-use Rattle.roster.specs.Model.{RosterModel}
 use Rattle.protocol.specs.declared.fault.StepFault.TheVariants.{Unmade}
 use Rattle.protocol.specs.declared.step.Step.{Step}
 use Rattle.protocol.specs.declared.worker.Worker.{Worker}

@@ -5,4 +5,4 @@ use Rattle.group.proofs.state.Group.line.Goals as goal
 
 pub returns-then-w-self : goal.returns-then-w-self
 returns-then-w-self g c m =
-    stranger_none (store_of c.args.self.now m) c.args.w c.args.k (c.is_made.ensures.facts c.if-not-is-made.false) c.if-w-self.true
+    stranger_none (store_of c.args.self.now m) c.args.w c.args.k (c.is_made.ensures.facts c.if-not-is_made.false) c.if-w-self.true

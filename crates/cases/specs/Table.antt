@@ -5,7 +5,7 @@
 -- table        the rows
 use Rattle.std.specs.Prelude.{◌≡◌, ℕ, false, List, [], ◌∷◌, negsuc, Some, None, Option, Float}
 use Rattle.std.specs.Float.{fin}
-use Rattle.std.specs.List.{AllByRecursion as All}
+use Rattle.std.specs.List.{AllByRecursion}
 use Rattle.pack.specs.Sheets.{sheet_of, remaining_of}
 use Rattle.pack.specs.Standard.{whole}
 use Rattle.pack.specs.declared.line.PackLine.{PackLine}
@@ -43,4 +43,4 @@ table =
     ∷ []
 
 abbrev pub EveryCaseHolds : Type 0
-EveryCaseHolds = All Holds table
+EveryCaseHolds = AllByRecursion Holds table

@@ -1,4 +1,6 @@
 // The marked cases of the rules, shown of the definitions.
+#![tactic(auto)]
+
 ghost use Rattle.std.specs.Prelude.{◌≡◌, length};
 ghost use Rattle.cases.specs.Table.{table, EveryCaseHolds};
 

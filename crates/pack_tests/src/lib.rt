@@ -1,4 +1,5 @@
 // Tests of pack lines, the pack sheet and the stored form, at every limit and on both sides of it.
+#![tactic(auto)]
 
 #[cfg(test)]
 mod tests {

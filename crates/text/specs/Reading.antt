@@ -24,7 +24,7 @@
 -- Parted bs fs       fs are the fields of the line bs: with single spaces between them they are the line again, and none has a space
 use Rattle.std.specs.Prelude.{◌≡◌, ℕ, ◌+◌, cond, List, [], ◌∷◌, length, drop, Some, None, Ok, Err, Option, Result, nat_le}
 use Rattle.std.specs.Borrow.{Bor}
-use Rattle.std.specs.List.{AllByRecursion as All}
+use Rattle.std.specs.List.{AllByRecursion}
 use Rattle.text.specs.declared.fields.BadField.{BadField}
 use Rattle.text.specs.Texts.{parted_at, joined_by, Lacks, number_of}
 
@@ -100,4 +100,4 @@ whole_line p bs = unless (length_check bs) (ended (p (unread_at bs 0)))
 
 pub record Parted (bs : List ℕ) (fs : List (List ℕ)) : Type 0 where
   pub joined : joined_by space fs ≡ bs
-  pub spaceless : All (Lacks space) fs
+  pub spaceless : AllByRecursion (Lacks space) fs

@@ -9,8 +9,8 @@
 -- digit_on n b      the number n with the digit b after it, if b is one
 -- decimal bs       the number that the bytes write in decimal digits, if they are all digits
 -- number_of bs      the same, of 1 to 10 digits
-use Rattle.std.specs.Prelude.{ℕ, suc, ◌+◌, ◌-◌, ◌*◌, Bool, cond, ◌&&◌, ◌≢◌, List, [], ◌∷◌, ◌++◌, length, Some, None, fold, Option, ◌==◌, nat_le}
-use Rattle.std.specs.List.{AllByRecursion as All}
+use Rattle.std.specs.Prelude.{ℕ, suc, ◌+◌, ◌-◌, ◌*◌, cond, ◌&&◌, ◌≢◌, List, [], ◌∷◌, ◌++◌, length, Some, None, fold, Option, ◌==◌, nat_le}
+use Rattle.std.specs.List.{AllByRecursion}
 
 abbrev pub run_to : ℕ → List ℕ → ℕ
 run_to c [] = 0
@@ -47,7 +47,7 @@ abbrev pub lines_of : List ℕ → List (List ℕ)
 lines_of bs = closed (parted_at newline bs)
 
 abbrev pub Lacks : ℕ → List ℕ → Type 0
-Lacks c bs = All (λ b. b ≢ c) bs
+Lacks c bs = AllByRecursion (λ b. b ≢ c) bs
 
 abbrev pub digit_on : Option ℕ → ℕ → Option ℕ
 digit_on None b = None

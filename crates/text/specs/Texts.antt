@@ -1,14 +1,14 @@
 -- Bytes as text: runs, lines, fields and numbers. Assumes nothing.
 --
--- run_to c bs       how many bytes stand before the first c; all of them where there is none
--- parted_at c bs    the bytes parted at each c: one part more than there are c's
--- joined_by c ps    the parts with one c between each two
+-- run_to c bs      how many bytes stand before the first c; all of them where there is none
+-- parted_at c bs   the bytes parted at each c: one part more than there are c's
+-- joined_by c ps   the parts with one c between each two
 -- closed ps        the parts less a last one that is empty
--- lines_of bs       the lines of a text: the parts between newlines, and no line after a last newline
+-- lines_of bs      the lines of a text: the parts between newlines, and no line after a last newline
 -- Lacks c bs       no byte of bs is c
--- digit_on n b      the number n with the digit b after it, if b is one
+-- digit_on n b     the number n with the digit b after it, if b is one
 -- decimal bs       the number that the bytes write in decimal digits, if they are all digits
--- number_of bs      the same, of 1 to 10 digits
+-- number_of bs     the same, of 1 to 10 digits
 use Rattle.std.specs.Prelude.{ℕ, suc, ◌+◌, ◌-◌, ◌*◌, cond, ◌&&◌, ◌≢◌, List, [], ◌∷◌, ◌++◌, length, Some, None, fold, Option, ◌==◌, nat_le}
 use Rattle.std.specs.List.{AllByRecursion}
 

@@ -1,6 +1,6 @@
 -- A float and its bits tell each other: the round trips of the IEEE library, at binary64.
-use Rattle.std.proofs.Common.{◌≡◌, ℕ, ◌*◌, ◌^◌, ◌<◌, not, T, ◌⊎◌, sym, refl, ap, ◌∙◌, subst, inl, inr}
-use lib.Ieee.{Float, binary64, fits, is_nan, nan_bits, of_bits, to_bits, top}
+use Rattle.std.proofs.Common.{◌≡◌, ℕ, ◌^◌, ◌<◌, not, T, sym, refl, ap, ◌∙◌, subst, inl, inr}
+use lib.Ieee.{Float, binary64, fits, of_bits, to_bits}
 use lib.Ieee.Bits.{of_bits-to_bits, to_bits-of_bits, nan_bits_is}
 use Rattle.pack.specs.Stored.{not_aNumber, stored_float, restored_float, ExactBits}
 

@@ -4,7 +4,7 @@ use lib.Ieee.{Float}
 use Rattle.pack.specs.declared.line.PackLine.{PackLine}
 use Rattle.pack.specs.declared.sheet.PackSheet.{PackSheet}
 use Rattle.pack.specs.Sheets.{fit_for, worked, refused_line, applied, worked_on, sheet_of, empty_sheet, time_at, remaining_of}
-use Rattle.pack.specs.Laws.{OnlyCounted, UnfitOnlyCounted, NoneFit, LastFit, TimeByLastFit, SheetsJoin}
+use Rattle.pack.specs.Laws.{OnlyCounted, UnfitOnlyCounted, LastFit, TimeByLastFit, SheetsJoin}
 
 worked_join : (s : PackSheet) (xs ys : List PackLine) → worked_on s (xs ++ ys) ≡ worked_on (worked_on s xs) ys
 worked_join s [] ys = refl

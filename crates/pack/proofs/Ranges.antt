@@ -1,6 +1,6 @@
 -- The charge of every sheet lies from 0 to the largest charge: a product of two floats that are not negative is not negative, and a difference that
 -- is not negative rounds to no more than what it was taken from, since rounding keeps the order.
-use Rattle.std.proofs.Common.{◌≡◌, ℕ, zero, suc, ◌+◌, ◌-◌, ◌*◌, ◌^◌, ◌<◌, ◌≤◌, Bool, true, false, cond, ◌&&◌, ◌||◌, T, eqb, ltb, leb, List, [], ◌∷◌, ℤ, pos, sym, refl, subst, true≢false, le_trans, le_of_eq, mul-le-mul_right, mul_assoc, mul-pos, mul-one, arith, lit≤, eqb→eq, ltb→lt, leb→le}
+use Rattle.std.proofs.Common.{◌≡◌, ℕ, zero, suc, ◌+◌, ◌-◌, ◌*◌, ◌^◌, ◌<◌, ◌≤◌, Bool, true, false, cond, ◌&&◌, ◌||◌, T, eqb, ltb, leb, List, [], ◌∷◌, ℤ, sym, refl, subst, true≢false, le_trans, le_of_eq, mul-le-mul_right, mul_assoc, mul-pos, mul-one, arith, lit≤, eqb→eq, ltb→lt, leb→le}
 use lib.Ieee.{Float, Format, nan, inf, fin, binary64, up, down, prec, low, emax, odd, units, round, of_int, lt, le, mul, sub}
 use lib.Ieee.Exact.{HasValue}
 use lib.Ieee.Back.{round_whole}

@@ -1,14 +1,14 @@
 -- What holds of every sheet, in the words of the pack standard. Assumes nothing.
 --
--- InRange q                    q is a number from 0 to the largest charge
--- ChargeInRange s q          where s is the sheet of some lines, its charge q is in range
--- OnlyCounted s s'             s' is s with one more unfit line, and nothing else
--- UnfitOnlyCounted s l s'    an unfit line l leaves charge, rest state, remaining time and fit count of s as they were
--- NoneFit xs ys                no line of ys is fit where it comes, after the lines xs
--- LastFit ls l                 l is the last line of ls that is fit where it comes
+-- InRange q                 q is a number from 0 to the largest charge
+-- ChargeInRange s q         where s is the sheet of some lines, its charge q is in range
+-- OnlyCounted s s'          s' is s with one more unfit line, and nothing else
+-- UnfitOnlyCounted s l s'   an unfit line l leaves charge, rest state, remaining time and fit count of s as they were
+-- NoneFit xs ys             no line of ys is fit where it comes, after the lines xs
+-- LastFit ls l              l is the last line of ls that is fit where it comes
 -- TimeByLastFit s t         where s is the sheet of some lines, t is its remaining time: there is one exactly when the last fit line is a Drain
--- SheetsJoin s ys s'          where s is the sheet of lines xs, s', which is s worked on by ys, is the sheet of xs and then ys
-use Rattle.std.specs.Prelude.{◌≡◌, ℕ, Bool, true, false, T, List, [], ◌∷◌, ◌++◌, Some, None, Option, Float}
+-- SheetsJoin s ys s'        where s is the sheet of lines xs, s', which is s worked on by ys, is the sheet of xs and then ys
+use Rattle.std.specs.Prelude.{◌≡◌, ℕ, true, false, T, List, [], ◌∷◌, ◌++◌, Some, None, Option, Float}
 use Rattle.std.specs.Float.{binary64}
 use Rattle.std.specs.Float.Ieee.{div, le}
 use Rattle.pack.specs.declared.line.PackLine.{PackLine}

@@ -1,10 +1,10 @@
 -- What a pack line does to a pack sheet. Assumes nothing.
 --
--- begun t         a fit Begin has come
+-- begun t          a fit Begin has come
 -- fit_for s l      the line l is fit for the sheet s
--- drained q c n   the charge q after the current c for n seconds
--- worked s l      the sheet s after a line that is fit
--- applied s l     the sheet s after any line
+-- drained q c n    the charge q after the current c for n seconds
+-- worked s l       the sheet s after a line that is fit
+-- applied s l      the sheet s after any line
 -- worked_on s ls   the sheet s after the lines ls, in their order
 -- sheet_of ls      the sheet of the lines ls
 -- remaining_of s   the remaining time in seconds, if there is one

@@ -1,6 +1,6 @@
 -- The limits of the pack standard, edition 1. Assumes nothing.
 --
--- whole n        the whole number n as a 64-bit float
+-- whole n         the whole number n as a 64-bit float
 -- charge_most     the largest charge of a Begin, in milliampere-seconds
 -- current_least   the least current of a Drain, in milliamperes; current_most the largest
 -- seconds_least   the fewest seconds of a Drain or an Idle; seconds_most the most

@@ -1,13 +1,13 @@
 -- A pack line as whole numbers, as it lies in lent memory. Assumes nothing.
 --
--- not_aNumber             the mark in the place of the bits of every float that is not a number
--- stored_float x          the binary64 bits of x, or the mark
--- restored_float b        the float of these bits; not a number for the mark
--- stored_of l             the stored form of the line l
--- restored_of p           the line of the stored form p
--- WorksAlike l l'       every sheet is worked on by l' just as by l
--- Exact p                the bits of p are those of a number, or the mark
-use Rattle.std.specs.Prelude.{◌≡◌, ℕ, Bool, false, ◌⊎◌, from_bits, to_bits, Float}
+-- not_aNumber        the mark in the place of the bits of every float that is not a number
+-- stored_float x     the binary64 bits of x, or the mark
+-- restored_float b   the float of these bits; not a number for the mark
+-- stored_of l        the stored form of the line l
+-- restored_of p      the line of the stored form p
+-- WorksAlike l l'    every sheet is worked on by l' just as by l
+-- Exact p            the bits of p are those of a number, or the mark
+use Rattle.std.specs.Prelude.{◌≡◌, ℕ, false, ◌⊎◌, from_bits, to_bits, Float}
 use Rattle.std.specs.Float.{binary64}
 use Rattle.std.specs.Float.Ieee.{nan_bits}
 use Rattle.pack.specs.declared.line.PackLine.{PackLine}

@@ -1,4 +1,6 @@
 // Pack lines, the pack sheet that is worked out from them, and the form in which lines are stored.
+#![tactic(auto)]
+
 mod line;
 mod sheet;
 mod stored;

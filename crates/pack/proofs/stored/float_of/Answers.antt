@@ -5,4 +5,4 @@ use Rattle.pack.proofs.Bits.{bits_back}
 use Rattle.pack.proofs.stored.float_of.Goals as goal
 
 pub returns : goal.returns
-returns c = record { value = c.f64-from-bits-with-nan.ensures; back = λ x. ap stored_float c.f64-from-bits-with-nan.ensures ∙ bits_back c.args.bits (omega arith) x }
+returns c = record { value = c.f64_from_bits_with_nan.ensures; back = λ x. ap stored_float c.f64_from_bits_with_nan.ensures ∙ bits_back c.args.bits (omega arith) x }

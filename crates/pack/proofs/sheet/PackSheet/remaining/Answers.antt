@@ -10,5 +10,5 @@ returns-in-Draining c =
     let e : Some (div binary64 c.args.self.now.charge c.in-Draining.current) ≡ remaining_of c.args.self.now = search rules in
     record { value = e; time = time_by_last_fit c.args.self.now _ e }
 
-pub returns-in-default : goal.returns-in-default
-returns-in-default c = let e : None ≡ remaining_of c.args.self.now = search rules in record { value = e; time = time_by_last_fit c.args.self.now _ e }
+pub returns-in_default : goal.returns-in_default
+returns-in_default c = let e : None ≡ remaining_of c.args.self.now = search rules in record { value = e; time = time_by_last_fit c.args.self.now _ e }

@@ -7,7 +7,7 @@
 -- answer_of c s bs              what is answered to the line bs
 -- sheet_after c s bs            the sheet s after the line bs: only a channel line changes it
 -- answer_text, sheet_text       the bytes that are written
-use Rattle.std.specs.Prelude.{ℕ, Bool, cond, List, [], ◌∷◌, ◌++◌, length, Some, None, Ok, Err, codes, decimal, ◌==◌, nat_lt, slice_index}
+use Rattle.std.specs.Prelude.{ℕ, Bool, cond, List, ◌++◌, length, Some, None, Ok, Err, codes, decimal, ◌==◌, nat_lt, slice_index}
 use Rattle.keylines.specs.Pairs.{words_of, largest_of}
 use Rattle.keylines.specs.Sheets.{Sheet, fits_line, applied}
 use Rattle.keylines.specs.declared.channels.Channel.{Channel}

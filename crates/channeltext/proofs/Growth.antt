@@ -1,5 +1,5 @@
 -- What a line of text does to a sheet, by what it was read as, and that the laws of the sheet go on.
-use Rattle.std.proofs.Common.{◌≡◌, ℕ, true, List, [], ◌∷◌, Ok, Err, Result, sym, refl, ap, ◌∙◌}
+use Rattle.std.proofs.Common.{◌≡◌, ℕ, true, List, [], ◌∷◌, Ok, Err, Result, refl, ap, ◌∙◌}
 use Rattle.std.proofs.lemmas.Bool.{eqb-true, eq-eqb}
 use Rattle.keylines.proofs.Histories.{lawful_on}
 use Rattle.keylines.specs.Laws.{LawsGoOn}

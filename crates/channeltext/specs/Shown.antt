@@ -1,13 +1,13 @@
 -- What a line of text asks of a key sheet and does to it, and what is written of that. Assumes nothing.
 --
--- same_channel, above_channel    the sameness and the order of channels
+-- same_channel, above_channel   the sameness and the order of channels
 -- Sheets c are over a table of capacity c.
 -- answer_to c s q               what the sheet s answers to the request q
 -- after_request c s q           the sheet s after the request q
 -- answer_of c s bs              what is answered to the line bs
 -- sheet_after c s bs            the sheet s after the line bs: only a channel line changes it
--- answer_text, sheet_text        the bytes that are written
-use Rattle.std.specs.Prelude.{ℕ, Bool, cond, List, [], ◌∷◌, ◌++◌, length, Some, None, Ok, Err, codes, decimal, ◌==◌, nat_lt, slice_index}
+-- answer_text, sheet_text       the bytes that are written
+use Rattle.std.specs.Prelude.{ℕ, Bool, cond, List, ◌++◌, length, Some, None, Ok, Err, codes, decimal, ◌==◌, nat_lt, slice_index}
 use Rattle.keylines.specs.Pairs.{words_of, largest_of}
 use Rattle.keylines.specs.Sheets.{Sheet, fits_line, applied}
 use Rattle.keylines.specs.declared.channels.Channel.{Channel}

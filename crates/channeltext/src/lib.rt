@@ -1,4 +1,6 @@
 // Requests to a key sheet as text: reading them, answering them, and showing the answers.
+#![tactic(auto)]
+
 mod read;
 mod show;
 

@@ -1,13 +1,13 @@
 -- An erase at the place that the search gave is the erase on the list of used pairs: the last used pair is read, and stands in the gap.
-use Rattle.std.proofs.Common.{◌≡◌, ℕ, ◌-◌, ◌<◌, ◌≤◌, Bool, true, false, cond, ltb, List, [], ◌∷◌, length, get_or, take, drop, set, Some, None, Option, sym, refl, ap, ◌∙◌, subst, arith, length-set}
-use lib.Seq.{take-set-lt}
+use Rattle.std.proofs.Common.{◌≡◌, ℕ, ◌-◌, ◌<◌, ◌≤◌, Bool, cond, List, length, get_or, take, set, Some, None, sym, refl, ap, ◌∙◌, subst, arith, length-set}
+use Rattle.std.proofs.Math.Seq.{take-set-lt}
 use Rattle.std.proofs.lemmas.List.{drop-set-lt, length-take-le, take-take, get_or-take}
 use Rattle.std.proofs.lemmas.Option.{slice_get_read}
 use Rattle.std.proofs.lemmas.Bool.{lt-ltb, le-ltb}
 use Rattle.std.specs.List.{slice_get}
 use Rattle.keylines.specs.declared.lines.Pair.{Pair}
 use Rattle.keylines.specs.Limits.{capacity_of}
-use Rattle.keylines.specs.Pairs.{place_of, holds, closed, erased_pairs}
+use Rattle.keylines.specs.Pairs.{place_of, closed, erased_pairs}
 use Rattle.keylines.specs.Slices.{Rewritten}
 
 -- a number of pairs and a slice that show the pairs ps

@@ -1,5 +1,5 @@
 -- Laws of a sheet over its lines: a key's words are those of its newest fit put, by induction over the lines from any sheet.
-use Rattle.std.proofs.Common.{◌≡◌, ℕ, ◌+◌, ◌<◌, ◌≤◌, Bool, true, false, not, ◌⊎◌, List, [], ◌∷◌, ◌++◌, length, get_or, take, Some, None, Option, sym, refl, ap, ◌∙◌, subst, subst₂, inl, inr, arith}
+use Rattle.std.proofs.Common.{◌≡◌, ℕ, ◌+◌, ◌<◌, ◌≤◌, Bool, true, not, ◌⊎◌, List, [], ◌∷◌, ◌++◌, length, get_or, take, Some, None, Option, sym, refl, ap, ◌∙◌, subst, subst₂, inl, inr, arith}
 use Rattle.std.proofs.lemmas.List.{take_all}
 use Rattle.std.proofs.lemmas.List.Sums.{fold_more}
 use Rattle.std.proofs.lemmas.Bool.{cases_Bool, both_ways}
@@ -8,7 +8,7 @@ use Rattle.keylines.specs.declared.lines.ChannelLine.{ChannelLine}
 use Rattle.keylines.specs.declared.lines.ChannelLine.TheVariants.{Put, Erase}
 use Rattle.keylines.specs.Pairs.{room_for, words_of}
 use Rattle.keylines.specs.Sheets.{Sheet, fits_line, line_pairs, counted, applied, worked_on, sheet_of, empty_sheet}
-use Rattle.keylines.specs.Laws.{DistinctKeys, FitAfter, NewestPut, Lawful}
+use Rattle.keylines.specs.Laws.{DistinctKeys, NewestPut, Lawful}
 use Rattle.keylines.proofs.Words.{same_or_not, words-present, held_room, put_words, put_others, put_unfit, put_distinct, erase_words, erase_others, erase_distinct}
 
 module _ {K : Type 0} (alike : K → K → Bool) (c : ℕ) where

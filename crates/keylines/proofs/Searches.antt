@@ -1,5 +1,5 @@
 -- The search for a key, from a place on, and what stands at the place that it gives. By induction over the pairs.
-use Rattle.std.proofs.Common.{◌≡◌, ℕ, suc, ◌+◌, ◌<◌, ◌≤◌, Bool, true, false, cond, List, [], ◌∷◌, length, get_or, take, drop, Some, None, Option, sym, refl, ap, ◌∙◌, arith, length-take}
+use Rattle.std.proofs.Common.{◌≡◌, ℕ, suc, ◌+◌, ◌<◌, ◌≤◌, Bool, true, false, cond, List, [], ◌∷◌, length, get_or, take, drop, Some, None, sym, refl, ap, ◌∙◌, arith, length-take}
 use Rattle.std.proofs.lemmas.List.{drop_more, get_or-take, at_drop_all}
 use Rattle.keylines.specs.declared.lines.Pair.{Pair}
 use Rattle.keylines.specs.Pairs.{place_of, words_of}

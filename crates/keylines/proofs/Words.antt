@@ -1,12 +1,11 @@
 -- A put and an erase keep the keys distinct and change the words of their own key alone, by induction over the pairs.
-use Rattle.std.proofs.Common.{◌≡◌, ℕ, suc, ◌+◌, ◌-◌, ◌<◌, ◌≤◌, Bool, true, false, cond, ◌⊎◌, List, [], ◌∷◌, ◌++◌, length, take, set, Some, None, Option, sym, refl, ap, ◌∙◌, subst, inl, inr, arith}
+use Rattle.std.proofs.Common.{◌≡◌, ℕ, suc, ◌<◌, Bool, true, false, cond, ◌⊎◌, List, [], ◌∷◌, ◌++◌, length, set, Some, None, sym, refl, ap, ◌∙◌, subst, inl, inr, arith}
 use Rattle.std.proofs.lemmas.Bool.{lt-ltb, le-ltb, cases_lt, cases_Bool, both_ways}
-use Rattle.std.specs.List.{slice_get}
 use Rattle.keylines.specs.declared.lines.Pair.{Pair}
-use Rattle.keylines.specs.Pairs.{with_words, place_of, holds, room_for, put_pairs, closed, erased_pairs, words_of}
+use Rattle.keylines.specs.Pairs.{with_words, place_of, room_for, put_pairs, closed, erased_pairs, words_of}
 use Rattle.keylines.specs.Laws.{Present, DistinctKeys, PutLaw, EraseLaw}
 use Rattle.keylines.proofs.Closing.{last_of, front_of, turned, closed_first, closed_later}
-use Rattle.keylines.proofs.Puts.{put_held, put_new, put_full, place_le}
+use Rattle.keylines.proofs.Puts.{put_held, put_new, put_full}
 
 module _ {K : Type 0} (alike : K → K → Bool) (exact : (x y : K) → alike x y ≡ true → x ≡ y) (itself : (x : K) → alike x x ≡ true) where
   yes_alike : (x y : K) → x ≡ y → alike x y ≡ true

@@ -4,12 +4,12 @@
 -- |--------------|--------------------------------------------------------------------------------------|
 -- | Present      | some pair has this key                                                               |
 -- | DistinctKeys | no two pairs have one key                                                            |
--- | PutLaw       | a put keeps the keys distinct, gives its key its words, and leaves the others' words  |
--- | EraseLaw     | an erase keeps the keys distinct, takes its key away, and leaves the others' words    |
+-- | PutLaw       | a put keeps the keys distinct, gives its key its words, and leaves the others' words |
+-- | EraseLaw     | an erase keeps the keys distinct, takes its key away, and leaves the others' words   |
 -- | FitAfter     | a line is fit where it comes after these lines                                       |
 -- | NewestPut    | among the lines, the newest fit put of a key, with these words, and not erased since |
--- | Lawful       | a sheet is that of the lines, and its keys and words are those that the lines say     |
--- | LawsGoOn   | the sheet of lines, worked on by more, is lawful for all of them                     |
+-- | Lawful       | a sheet is that of the lines, and its keys and words are those that the lines say    |
+-- | LawsGoOn     | the sheet of lines, worked on by more, is lawful for all of them                     |
 -- | Largest      | the largest key of the pairs, or none where there is no pair                         |
 use Rattle.std.specs.Prelude.{◌≡◌, ℕ, Bool, true, false, ◌⊎◌, List, [], ◌∷◌, ◌++◌, Some, None, Option, ◌≢◌}
 use Rattle.keylines.specs.declared.lines.Pair.{Pair}

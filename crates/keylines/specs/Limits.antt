@@ -1,10 +1,10 @@
 -- The limits of a key table and of a key sheet. Assumes nothing.
 --
--- | word       | meaning                                                   |
--- |------------|-----------------------------------------------------------|
--- | places_max  | the most places of a slice that a table uses: 1,024       |
--- | count_max   | where a sheet's counts stop: 4,294,967,295                |
--- | capacity_of | how many pairs a table on a slice of n places can hold    |
+-- | word        | meaning                                                |
+-- |-------------|--------------------------------------------------------|
+-- | places_max  | the most places of a slice that a table uses: 1,024    |
+-- | count_max   | where a sheet's counts stop: 4,294,967,295             |
+-- | capacity_of | how many pairs a table on a slice of n places can hold |
 use Rattle.std.specs.Prelude.{ℕ, min}
 
 abbrev pub places_max : ℕ

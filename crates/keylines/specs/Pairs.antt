@@ -1,17 +1,17 @@
 -- The pairs of a key table as a list, and what putting, erasing and finding do to it. Assumes nothing.
 --
--- | word        | meaning                                                                        |
--- |-------------|--------------------------------------------------------------------------------|
--- | alike       | the sameness of a kind of key, `above` its order                               |
--- | with_words   | the pair of a key and its words                                                |
+-- | word         | meaning                                                                         |
+-- |--------------|---------------------------------------------------------------------------------|
+-- | alike        | the sameness of a kind of key, `above` its order                                |
+-- | with_words   | the pair of a key and its words                                                 |
 -- | place_of     | the place of the first pair with a key; the number of pairs where there is none |
--- | holds       | whether some pair has a key                                                    |
--- | room_for     | whether a key can be put: it is held already, or a place is free               |
--- | put_pairs    | the pairs after a put                                                          |
--- | closed      | the pairs with the last of them moved to a place                               |
--- | erased_pairs | the pairs after an erase                                                       |
--- | words_of     | the words of a key, if it is held                                              |
--- | largest_of   | the largest key, if there is a pair                                            |
+-- | holds        | whether some pair has a key                                                     |
+-- | room_for     | whether a key can be put: it is held already, or a place is free                |
+-- | put_pairs    | the pairs after a put                                                           |
+-- | closed       | the pairs with the last of them moved to a place                                |
+-- | erased_pairs | the pairs after an erase                                                        |
+-- | words_of     | the words of a key, if it is held                                               |
+-- | largest_of   | the largest key, if there is a pair                                             |
 use Rattle.std.specs.Prelude.{ℕ, suc, ◌-◌, Bool, cond, ◌||◌, List, [], ◌∷◌, ◌++◌, length, take, Some, None, fold, Option, nat_lt, slice_set}
 use Rattle.std.specs.List.{slice_get}
 use Rattle.keylines.specs.declared.lines.Pair.{Pair}

@@ -1,14 +1,14 @@
 -- The key sheet as a fold over channel lines: the pairs, and the counts of fit and unfit lines. Assumes nothing.
 --
--- | word       | meaning                                                                        |
--- |------------|--------------------------------------------------------------------------------|
--- | Sheet      | the pairs in the order of their places, and the two counts                     |
+-- | word        | meaning                                                                         |
+-- |-------------|---------------------------------------------------------------------------------|
+-- | Sheet       | the pairs in the order of their places, and the two counts                      |
 -- | fits_line   | whether a line is fit: an erase always, a put where there is room for its key   |
--- | line_pairs  | the pairs after a line                                                         |
--- | counted    | a count after one line more, if the line belongs to it; it stops at `count_max` |
--- | applied    | the sheet after one line                                                       |
--- | worked_on   | the sheet after several lines, in their order                                  |
--- | empty_sheet | no pair and no line                                                            |
+-- | line_pairs  | the pairs after a line                                                          |
+-- | counted     | a count after one line more, if the line belongs to it; it stops at `count_max` |
+-- | applied     | the sheet after one line                                                        |
+-- | worked_on   | the sheet after several lines, in their order                                   |
+-- | empty_sheet | no pair and no line                                                             |
 -- | sheet_of    | the sheet that lines give from the beginning, on a table of a capacity          |
 use Rattle.std.specs.Prelude.{ℕ, ◌+◌, min, Bool, true, cond, not, List, [], fold}
 use Rattle.keylines.specs.declared.lines.Pair.{Pair}

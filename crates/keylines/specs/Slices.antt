@@ -2,7 +2,7 @@
 --
 -- | word      | meaning                                                                               |
 -- |-----------|---------------------------------------------------------------------------------------|
--- | count_if   | the number of pairs where a line was fit, else none                                   |
+-- | count_if  | the number of pairs where a line was fit, else none                                   |
 -- | Rewritten | a slice's first places hold these pairs, and those past the capacity are as they were |
 use Rattle.std.specs.Prelude.{◌≡◌, ℕ, ◌≤◌, Bool, cond, List, length, take, drop, Some, None, Option}
 use Rattle.keylines.specs.Limits.{capacity_of}

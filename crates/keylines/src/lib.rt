@@ -1,4 +1,6 @@
 // Kinds of key, channel lines, and what lines do to the pairs of a table.
+#![tactic(auto)]
+
 mod channels;
 mod kinds;
 mod lines;

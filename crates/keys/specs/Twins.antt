@@ -1,10 +1,10 @@
 -- Two tables that the same lines were applied to. Assumes nothing.
 --
--- | word          | meaning                                                                                        |
--- |---------------|------------------------------------------------------------------------------------------------|
--- | SheetsAgree  | lines led from the table t and the sheet s to t' and s': wherever they lead from a table of the |
--- |               | same capacity with the same pairs and counts, pairs, places and counts are those of t' and s',   |
--- |               | whatever else the two slices held                                                              |
+-- | word        | meaning                                                                                         |
+-- |-------------|-------------------------------------------------------------------------------------------------|
+-- | SheetsAgree | lines led from the table t and the sheet s to t' and s': wherever they lead from a table of the |
+-- |             | same capacity with the same pairs and counts, pairs, places and counts are those of t' and s',  |
+-- |             | whatever else the two slices held                                                               |
 use Rattle.std.specs.Prelude.{◌≡◌, Bool, List}
 use Rattle.keylines.specs.declared.lines.ChannelLine.{ChannelLine}
 use Rattle.keys.specs.declared.table.KeyTable.{KeyTable}

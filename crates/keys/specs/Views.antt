@@ -1,14 +1,14 @@
 -- What a key table and a key sheet stand for. Assumes nothing.
 --
--- | word          | meaning                                                                      |
--- |---------------|------------------------------------------------------------------------------|
--- | table_capacity | how many pairs the table can hold                                            |
--- | table_pairs    | the pairs in the used places, in their order                                 |
--- | table_beyond   | what the places past the capacity hold                                       |
--- | SameSlice     | two tables lie in one slice, whose places past the capacity hold what they did |
--- | no_lines       | the counts of no lines                                                       |
--- | one_more       | the counts after one line more, which was fit or unfit                       |
--- | sheet_now      | the pairs of a table, and the counts of the lines that were applied to it     |
+-- | word           | meaning                                                                        |
+-- |----------------|--------------------------------------------------------------------------------|
+-- | table_capacity | how many pairs the table can hold                                              |
+-- | table_pairs    | the pairs in the used places, in their order                                   |
+-- | table_beyond   | what the places past the capacity hold                                         |
+-- | SameSlice      | two tables lie in one slice, whose places past the capacity hold what they did |
+-- | no_lines       | the counts of no lines                                                         |
+-- | one_more       | the counts after one line more, which was fit or unfit                         |
+-- | sheet_now      | the pairs of a table, and the counts of the lines that were applied to it      |
 use Rattle.std.specs.Prelude.{◌≡◌, ℕ, Bool, not, List, length, take, drop}
 use Rattle.keylines.specs.declared.lines.Pair.{Pair}
 use Rattle.keys.specs.declared.table.KeyTable.{KeyTable}

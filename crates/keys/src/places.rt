@@ -19,7 +19,7 @@ pub(crate) fn capacity_of<K>(pairs: &[Pair<K>]) -> usize
 // The place of the first used pair with this key, or `used` where there is none.
 fn place<K: Key>(pairs: &[Pair<K>], used: usize, key: &K) -> usize
     requires { used ≤ length pairs.now }
-    ensures { result ≡ place_of alike key.now (take used pairs.now) }
+    ensures { result ≡ place_of K.alike key.now (take used pairs.now) }
 {
     for i in 0..used {
         if pairs[i].key.same(key) {
@@ -32,7 +32,7 @@ fn place<K: Key>(pairs: &[Pair<K>], used: usize, key: &K) -> usize
 // The words of a key, if it is among the used pairs.
 pub(crate) fn find_words<K: Key>(pairs: &[Pair<K>], used: usize, key: &K) -> Option<[u64; 2]>
     requires { used ≤ length pairs.now }
-    ensures { result ≡ words_of alike key.now (take used pairs.now) }
+    ensures { result ≡ words_of K.alike key.now (take used pairs.now) }
 {
     let i = place(pairs, used, key);
     if i < used { Some(pairs[i].words) } else { None }
@@ -46,8 +46,8 @@ pub(crate) fn put_pair<K: Key>(
     words: [u64; 2],
 ) -> Option<usize>
     requires { used ≤ capacity_of (length pairs.old) }
-    ensures value { result ≡ count_if (room_for alike (capacity_of (length pairs.old)) key (take used pairs.old)) (put_pairs alike (capacity_of (length pairs.old)) key words (take used pairs.old)) }
-    ensures after { Rewritten pairs.old pairs.new (put_pairs alike (capacity_of (length pairs.old)) key words (take used pairs.old)) }
+    ensures value { result ≡ count_if (room_for K.alike (capacity_of (length pairs.old)) key (take used pairs.old)) (put_pairs K.alike (capacity_of (length pairs.old)) key words (take used pairs.old)) }
+    ensures after { Rewritten pairs.old pairs.new (put_pairs K.alike (capacity_of (length pairs.old)) key words (take used pairs.old)) }
     ensures refused { result ≡ None → pairs.new ≡ pairs.old }
 {
     let capacity = capacity_of(pairs);
@@ -62,8 +62,8 @@ pub(crate) fn put_pair<K: Key>(
 // Moves the last used pair into the gap that this key leaves. The number of used pairs then.
 pub(crate) fn erase_pair<K: Key>(pairs: &mut [Pair<K>], used: usize, key: &K) -> usize
     requires { used ≤ capacity_of (length pairs.old) }
-    ensures value { result ≡ length (erased_pairs alike key.now (take used pairs.old)) }
-    ensures after { Rewritten pairs.old pairs.new (erased_pairs alike key.now (take used pairs.old)) }
+    ensures value { result ≡ length (erased_pairs K.alike key.now (take used pairs.old)) }
+    ensures after { Rewritten pairs.old pairs.new (erased_pairs K.alike key.now (take used pairs.old)) }
 {
     let i = place(pairs, used, key);
     if i >= used {
@@ -77,8 +77,8 @@ pub(crate) fn erase_pair<K: Key>(pairs: &mut [Pair<K>], used: usize, key: &K) ->
 // The largest key among the used pairs, if there is one.
 pub(crate) fn largest_key<K: OrderedKey>(pairs: &[Pair<K>], used: usize) -> Option<K>
     requires { used ≤ length pairs.now }
-    ensures value { result ≡ largest_of above (take used pairs.now) }
-    ensures law { Largest above (take used pairs.now) result }
+    ensures value { result ≡ largest_of K.above (take used pairs.now) }
+    ensures law { Largest K.above (take used pairs.now) result }
 {
     let mut best = None;
     for i in 0..used {
@@ -89,7 +89,7 @@ pub(crate) fn largest_key<K: OrderedKey>(pairs: &[Pair<K>], used: usize) -> Opti
 
 // The larger of the largest key so far and one more key.
 fn larger<K: OrderedKey>(best: Option<K>, key: K) -> Option<K>
-    ensures { result ≡ larger_of above best key }
+    ensures { result ≡ larger_of K.above best key }
 {
     match best {
         None => Some(key),
@@ -100,7 +100,7 @@ fn larger<K: OrderedKey>(best: Option<K>, key: K) -> Option<K>
 // Whether a line is fit: an erase always, a put where its key is held or a place is free.
 pub(crate) fn fits_line<K: Key>(pairs: &[Pair<K>], used: usize, line: &ChannelLine<K>) -> bool
     requires { used ≤ capacity_of (length pairs.now) }
-    ensures { result ≡ fits_line alike (capacity_of (length pairs.now)) (take used pairs.now) line.now }
+    ensures { result ≡ fits_line K.alike (capacity_of (length pairs.now)) (take used pairs.now) line.now }
 {
     match *line {
         ChannelLine::Put(key, _) => place(pairs, used, &key) < capacity_of(pairs),

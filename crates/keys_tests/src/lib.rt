@@ -1,4 +1,5 @@
 // Tests of the key table and the key sheet on small examples and at the limits of a slice.
+#![tactic(auto)]
 
 #[cfg(test)]
 mod tests {

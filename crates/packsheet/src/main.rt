@@ -1,4 +1,6 @@
 // Works out a pack sheet from lines of text on standard input, and prints what each line did.
+#![tactic(auto)]
+
 use pack::PackSheet;
 use packtext::{apply_text, sheet_text};
 use std::io;

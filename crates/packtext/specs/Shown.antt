@@ -1,12 +1,12 @@
 -- What a line of text does to a sheet, and what is written of it. Assumes nothing.
 --
 -- cut x              a charge or a time rounded down to a whole number
--- figures_of s        what is shown of the sheet s
--- sheet_after s bs    the sheet s after the line bs: a bad line leaves it
--- answer_of s bs      what is answered to the line bs
--- BookGrows         where s is the sheet of lines xs, s' is the sheet of xs and then the pack line that bs writes, if it writes one
+-- figures_of s       what is shown of the sheet s
+-- sheet_after s bs   the sheet s after the line bs: a bad line leaves it
+-- answer_of s bs     what is answered to the line bs
+-- BookGrows          where s is the sheet of lines xs, s' is the sheet of xs and then the pack line that bs writes, if it writes one
 -- figures_text, answer_text, sheet_text: the bytes that are written
-use Rattle.std.specs.Prelude.{◌≡◌, ℕ, cond, List, [], ◌∷◌, ◌++◌, Some, None, Ok, Err, codes, decimal, Option, Float}
+use Rattle.std.specs.Prelude.{◌≡◌, ℕ, cond, List, ◌++◌, Some, None, Ok, Err, codes, decimal, Option, Float}
 use Rattle.std.specs.Float.Ieee.{to_unsigned}
 use Rattle.pack.specs.Sheets.{fit_for, applied, sheet_of, remaining_of}
 use Rattle.pack.specs.declared.line.PackLine.{PackLine}

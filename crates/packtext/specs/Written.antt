@@ -1,8 +1,8 @@
 -- Pack lines written as text, and what is shown of a sheet. Assumes nothing.
 --
--- pack_line_in u        a pack line in the next fields of u: `b CHARGE`, `d CURRENT SECONDS` or `i SECONDS`
--- pack_line_of bs       the pack line that the line bs writes, with no field after it
--- good_lines bs        that line, as a list; none where bs is bad
+-- pack_line_in u    a pack line in the next fields of u: `b CHARGE`, `d CURRENT SECONDS` or `i SECONDS`
+-- pack_line_of bs   the pack line that the line bs writes, with no field after it
+-- good_lines bs     that line, as a list; none where bs is bad
 use Rattle.std.specs.Prelude.{ℕ, cond, List, [], ◌∷◌, Ok, Err, Result, ◌==◌}
 use Rattle.pack.specs.Standard.{whole}
 use Rattle.pack.specs.declared.line.PackLine.{PackLine}

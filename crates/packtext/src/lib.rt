@@ -1,4 +1,6 @@
 // Pack lines as text: reading them, working on a sheet by them, and showing what was done.
+#![tactic(auto)]
+
 mod read;
 mod show;
 

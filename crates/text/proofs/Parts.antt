@@ -1,6 +1,6 @@
 -- A line parted at its spaces: its first part is the run up to the first space, the parts joined are the line, and none has a space.
 use Rattle.std.proofs.Common.{◌≡◌, ℕ, suc, ◌+◌, ◌-◌, ◌<◌, ◌≤◌, Bool, true, false, cond, eqb, leb, ◌≢◌, List, [], ◌∷◌, length, take, drop, Ok, Err, sym, refl, ap, ◌∙◌, subst, inl, inr, add-one, arith, length-drop, length-take}
-use Rattle.std.specs.List.{AllByRecursion as All}
+use Rattle.std.specs.List.{AllByRecursion}
 use Rattle.std.proofs.lemmas.List.{drop-drop, take_all}
 use Rattle.std.proofs.lemmas.Bool.{cond-true, cond-false, le-leb, lt-leb, eqb-true, eqb-false, cases_lt}
 use Rattle.text.specs.Texts.{run_to, on_first, parted_at, joined_by, Lacks}
@@ -94,15 +94,15 @@ parts_joined c (b ∷ bs) = go (eqb b c) (eqb-true b c) (parts_joined c bs)
     go false h rest = joined_first c b (parted_at c bs) ∙ ap (λ z. b ∷ z) rest
 
 -- ---- no separator inside
-first_lacks : (c b : ℕ) (ps : List (List ℕ)) → b ≢ c → All (Lacks c) ps → All (Lacks c) (on_first b ps)
+first_lacks : (c b : ℕ) (ps : List (List ℕ)) → b ≢ c → AllByRecursion (Lacks c) ps → AllByRecursion (Lacks c) (on_first b ps)
 first_lacks c b [] h all = ((h, tt), tt)
 first_lacks c b (p ∷ ps) h all = ((h, all.0), all.1)
 
-parts_lack : (c : ℕ) (bs : List ℕ) → All (Lacks c) (parted_at c bs)
+parts_lack : (c : ℕ) (bs : List ℕ) → AllByRecursion (Lacks c) (parted_at c bs)
 parts_lack c [] = (tt, tt)
 parts_lack c (b ∷ bs) = go (eqb b c) (eqb-false b c) (parts_lack c bs)
   where
-    go : (x : Bool) → (x ≡ false → b ≢ c) → All (Lacks c) (parted_at c bs) → All (Lacks c) (cond x ([] ∷ parted_at c bs) (on_first b (parted_at c bs)))
+    go : (x : Bool) → (x ≡ false → b ≢ c) → AllByRecursion (Lacks c) (parted_at c bs) → AllByRecursion (Lacks c) (cond x ([] ∷ parted_at c bs) (on_first b (parted_at c bs)))
     go true h rest = (tt, rest)
     go false h rest = first_lacks c b (parted_at c bs) (h refl) rest
 

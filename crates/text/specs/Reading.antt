@@ -1,30 +1,30 @@
 -- What is left to read of a line, and what reading a field answers and leaves. Assumes nothing.
 --
--- line_most           the most bytes of a line
--- space              the byte between two fields
--- Unread             the place of the next field, counted from 1, and the fields that are left
--- unread_at bs i      what is left of the line bs, where the next field begins at the index i
--- bad_at n            the refusal of the field at the place n
--- length_check bs     the refusal of a line of more than line_most bytes
--- contents r         what a field that was read holds
--- first_field u       the next field, or its refusal where none is left
--- parsed o n         what was read of a field, or the refusal of the field at the place n
--- read_by p u         the next field read by p
--- past_field u        what is left after the next field, good or bad; where none is left, nothing moves
--- Taken A            an answer, and what is left to read after it
--- take_by p u         the next field read by p
--- and_then t k        t, and then, unless t is refused, k on what is left
--- done r u           the answer r, with no more fields taken
--- unless r s         the answer s, unless the check r refuses
--- ended t            what t answers, unless a field is left after it
--- whole_line p bs     what p takes from the line bs, which is not too long and has no field after it
--- letter_in f         the field as its one byte
--- number32_in f       the field as a number that fits 32 bits
--- end_of u            the refusal of a field that is too many
--- Parted bs fs       fs are the fields of the line bs: with single spaces between them they are the line again, and none has a space
+-- line_most         the most bytes of a line
+-- space             the byte between two fields
+-- Unread            the place of the next field, counted from 1, and the fields that are left
+-- unread_at bs i    what is left of the line bs, where the next field begins at the index i
+-- bad_at n          the refusal of the field at the place n
+-- length_check bs   the refusal of a line of more than line_most bytes
+-- contents r        what a field that was read holds
+-- first_field u     the next field, or its refusal where none is left
+-- parsed o n        what was read of a field, or the refusal of the field at the place n
+-- read_by p u       the next field read by p
+-- past_field u      what is left after the next field, good or bad; where none is left, nothing moves
+-- Taken A           an answer, and what is left to read after it
+-- take_by p u       the next field read by p
+-- and_then t k      t, and then, unless t is refused, k on what is left
+-- done r u          the answer r, with no more fields taken
+-- unless r s        the answer s, unless the check r refuses
+-- ended t           what t answers, unless a field is left after it
+-- whole_line p bs   what p takes from the line bs, which is not too long and has no field after it
+-- letter_in f       the field as its one byte
+-- number32_in f     the field as a number that fits 32 bits
+-- end_of u          the refusal of a field that is too many
+-- Parted bs fs      fs are the fields of the line bs: with single spaces between them they are the line again, and none has a space
 use Rattle.std.specs.Prelude.{◌≡◌, ℕ, ◌+◌, cond, List, [], ◌∷◌, length, drop, Some, None, Ok, Err, Option, Result, nat_le}
 use Rattle.std.specs.Borrow.{Bor}
-use Rattle.std.specs.List.{AllByRecursion as All}
+use Rattle.std.specs.List.{AllByRecursion}
 use Rattle.text.specs.declared.fields.BadField.{BadField}
 use Rattle.text.specs.Texts.{parted_at, joined_by, Lacks, number_of}
 
@@ -100,4 +100,4 @@ whole_line p bs = unless (length_check bs) (ended (p (unread_at bs 0)))
 
 pub record Parted (bs : List ℕ) (fs : List (List ℕ)) : Type 0 where
   pub joined : joined_by space fs ≡ bs
-  pub spaceless : All (Lacks space) fs
+  pub spaceless : AllByRecursion (Lacks space) fs

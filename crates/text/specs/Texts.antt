@@ -1,16 +1,16 @@
 -- Bytes as text: runs, lines, fields and numbers. Assumes nothing.
 --
--- run_to c bs       how many bytes stand before the first c; all of them where there is none
--- parted_at c bs    the bytes parted at each c: one part more than there are c's
--- joined_by c ps    the parts with one c between each two
+-- run_to c bs      how many bytes stand before the first c; all of them where there is none
+-- parted_at c bs   the bytes parted at each c: one part more than there are c's
+-- joined_by c ps   the parts with one c between each two
 -- closed ps        the parts less a last one that is empty
--- lines_of bs       the lines of a text: the parts between newlines, and no line after a last newline
+-- lines_of bs      the lines of a text: the parts between newlines, and no line after a last newline
 -- Lacks c bs       no byte of bs is c
--- digit_on n b      the number n with the digit b after it, if b is one
+-- digit_on n b     the number n with the digit b after it, if b is one
 -- decimal bs       the number that the bytes write in decimal digits, if they are all digits
--- number_of bs      the same, of 1 to 10 digits
-use Rattle.std.specs.Prelude.{ℕ, suc, ◌+◌, ◌-◌, ◌*◌, Bool, cond, ◌&&◌, ◌≢◌, List, [], ◌∷◌, ◌++◌, length, Some, None, fold, Option, ◌==◌, nat_le}
-use Rattle.std.specs.List.{AllByRecursion as All}
+-- number_of bs     the same, of 1 to 10 digits
+use Rattle.std.specs.Prelude.{ℕ, suc, ◌+◌, ◌-◌, ◌*◌, cond, ◌&&◌, ◌≢◌, List, [], ◌∷◌, ◌++◌, length, Some, None, fold, Option, ◌==◌, nat_le}
+use Rattle.std.specs.List.{AllByRecursion}
 
 abbrev pub run_to : ℕ → List ℕ → ℕ
 run_to c [] = 0
@@ -47,7 +47,7 @@ abbrev pub lines_of : List ℕ → List (List ℕ)
 lines_of bs = closed (parted_at newline bs)
 
 abbrev pub Lacks : ℕ → List ℕ → Type 0
-Lacks c bs = All (λ b. b ≢ c) bs
+Lacks c bs = AllByRecursion (λ b. b ≢ c) bs
 
 abbrev pub digit_on : Option ℕ → ℕ → Option ℕ
 digit_on None b = None

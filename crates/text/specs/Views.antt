@@ -1,9 +1,9 @@
 -- A reader of fields and a reader of lines, by what each has left. Assumes nothing.
 --
--- unread f        what is left to read of a line's fields
--- lines_left t     the lines that are still to come
--- first_of ls      the first of a list, if there is one; rest_of ls the others
--- held o          what a line that was taken holds
+-- unread f       what is left to read of a line's fields
+-- lines_left t   the lines that are still to come
+-- first_of ls    the first of a list, if there is one; rest_of ls the others
+-- held o         what a line that was taken holds
 use Rattle.std.specs.Prelude.{ℕ, List, [], ◌∷◌, drop, Some, None, Option}
 use Rattle.std.specs.Borrow.{Bor}
 use Rattle.text.specs.declared.fields.Fields.{Fields}

@@ -1,4 +1,6 @@
 // Lines of text and their fields: where each stands, what number it is, and which one is bad.
+#![tactic(auto)]
+
 mod bytes;
 mod fields;
 mod lines;

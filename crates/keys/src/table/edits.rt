@@ -30,9 +30,9 @@ impl<'a, K: Key> KeyTable<'a, K> {
 
     // Stores the words under the key. Whether they fit: where the key is not held and no place is free, nothing changes.
     pub fn put(&mut self, key: K, words: [u64; 2]) -> bool
-        ensures value { result ≡ room_for alike (table_capacity self.old) key (table_pairs self.old) }
-        ensures after { table_pairs self.new ≡ put_pairs alike (table_capacity self.old) key words (table_pairs self.old) }
-        ensures law { PutLaw alike key words result (table_pairs self.old) (table_pairs self.new) }
+        ensures value { result ≡ room_for K.alike (table_capacity self.old) key (table_pairs self.old) }
+        ensures after { table_pairs self.new ≡ put_pairs K.alike (table_capacity self.old) key words (table_pairs self.old) }
+        ensures law { PutLaw K.alike key words result (table_pairs self.old) (table_pairs self.new) }
         ensures refused { result ≡ false → self.new.pairs.now ≡ self.old.pairs.now }
         ensures slice { SameSlice self.old self.new }
     {
@@ -51,8 +51,8 @@ impl<'a, K: Key> KeyTable<'a, K> {
 
     // Removes the pair with this key, if there is one; the last pair takes its place.
     pub fn erase(&mut self, key: K)
-        ensures after { table_pairs self.new ≡ erased_pairs alike key (table_pairs self.old) }
-        ensures law { EraseLaw alike key (table_pairs self.old) (table_pairs self.new) }
+        ensures after { table_pairs self.new ≡ erased_pairs K.alike key (table_pairs self.old) }
+        ensures law { EraseLaw K.alike key (table_pairs self.old) (table_pairs self.new) }
         ensures slice { SameSlice self.old self.new }
     {
         let used = self.used;
@@ -64,8 +64,8 @@ impl<'a, K: Key> KeyTable<'a, K> {
 
     // Puts or erases as the line says. Whether the line is fit: where it is not, nothing changes.
     pub fn apply(&mut self, line: ChannelLine<K>) -> bool
-        ensures value { result ≡ fits_line alike (table_capacity self.old) (table_pairs self.old) line }
-        ensures after { table_pairs self.new ≡ line_pairs alike (table_capacity self.old) (table_pairs self.old) line }
+        ensures value { result ≡ fits_line K.alike (table_capacity self.old) (table_pairs self.old) line }
+        ensures after { table_pairs self.new ≡ line_pairs K.alike (table_capacity self.old) (table_pairs self.old) line }
         ensures slice { SameSlice self.old self.new }
     {
         match line {

@@ -26,14 +26,14 @@ impl<'a, K: Key> KeyTable<'a, K> {
 
     // The words of a key, if it is held.
     pub fn find(&self, key: K) -> Option<[u64; 2]>
-        ensures { result ≡ words_of alike key (table_pairs self.now) }
+        ensures { result ≡ words_of K.alike key (table_pairs self.now) }
     {
         find_words(self.pairs, self.used, &key)
     }
 
     // Whether a line is fit: an erase always, a put where its key is held or a place is free.
     pub fn fits(&self, line: ChannelLine<K>) -> bool
-        ensures { result ≡ fits_line alike (table_capacity self.now) (table_pairs self.now) line }
+        ensures { result ≡ fits_line K.alike (table_capacity self.now) (table_pairs self.now) line }
     {
         fits_line(self.pairs, self.used, &line)
     }
@@ -42,8 +42,8 @@ impl<'a, K: Key> KeyTable<'a, K> {
 impl<'a, K: OrderedKey> KeyTable<'a, K> {
     // The largest key, if the table holds a pair.
     pub fn largest(&self) -> Option<K>
-        ensures value { result ≡ largest_of above (table_pairs self.now) }
-        ensures law { Largest above (table_pairs self.now) result }
+        ensures value { result ≡ largest_of K.above (table_pairs self.now) }
+        ensures law { Largest K.above (table_pairs self.now) result }
     {
         largest_key(self.pairs, self.used)
     }

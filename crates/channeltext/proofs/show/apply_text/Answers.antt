@@ -8,14 +8,14 @@ pub returns-in-Ok : goal.returns-in-Ok
 returns-in-Ok c =
     let n = table_capacity c.args.table.now in
     let s = sheet_now c.args.table.now c.args.sheet.now in
-    let t = sheet_now c.answer-request.new.table c.answer-request.new.sheet in
+    let t = sheet_now c.answer_request.new.table c.answer_request.new.sheet in
     let bs = c.args.line.now in
     let r = Ok c.in-Ok.request in
-    let e = after_read n s bs r t c.in-Ok.ensures c.answer-request.ensures.after in
+    let e = after_read n s bs r t c.in-Ok.ensures c.answer_request.ensures.after in
     record {
-      value = answer_read n s bs r c.answer-request.result c.in-Ok.ensures c.answer-request.ensures.value;
+      value = answer_read n s bs r c.answer_request.result c.in-Ok.ensures c.answer_request.ensures.value;
       after = e;
-      slice = c.answer-request.ensures.slice;
+      slice = c.answer_request.ensures.slice;
       law = laws_go_on n s t bs e;
     }
 

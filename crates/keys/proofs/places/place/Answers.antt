@@ -1,5 +1,5 @@
 -- One place more is searched, and the search ends where the key is met or the used pairs end.
-use Rattle.std.proofs.Common.{sym, ◌∙◌, arith}
+use Rattle.std.proofs.Common.{sym, arith}
 use Rattle.keylines.proofs.Searches.{past, met, passed}
 use Rattle.keys.proofs.places.place.Goals as goal
 

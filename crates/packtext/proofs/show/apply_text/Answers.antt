@@ -10,7 +10,7 @@ returns-in-Ok c =
     let l = c.in-Ok.read in
     let e = c.in-Ok.ensures in
     record {
-      value = c.apply-line.ensures.value ∙ answer_good s bs l e;
-      after = c.apply-line.ensures.after ∙ after_good s bs l e;
-      grows = grows_good s _ bs l e c.apply-line.ensures.after;
+      value = c.apply_line.ensures.value ∙ answer_good s bs l e;
+      after = c.apply_line.ensures.after ∙ after_good s bs l e;
+      grows = grows_good s _ bs l e c.apply_line.ensures.after;
     }

@@ -2,7 +2,7 @@
 use Rattle.std.proofs.Common.{sym, refl, ap, ◌∙◌, arith}
 use Rattle.keylines.specs.Limits.{capacity_of}
 use Rattle.keylines.specs.Sheets.{worked_on}
-use Rattle.keys.specs.Views.{SameSlice, sheet_now, table_capacity}
+use Rattle.keys.specs.Views.{sheet_now, table_capacity}
 use Rattle.keylines.proofs.Histories.{next_line, all_lines, lawful_on}
 use Rattle.keys.proofs.sheet.KeySheet.apply_all.Goals as goal
 

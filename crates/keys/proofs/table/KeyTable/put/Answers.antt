@@ -16,11 +16,11 @@ returns-in-Some g c =
     let lent = ap (λ r. r.now) c.take-pairs.ensures.value in
     let count = count_some (fitting c.take-pairs.result.now) (putting c.take-pairs.result.now) c.in-Some.n c.in-Some.ensures.value in
     let fits : true ≡ fitting c.args.self.now.pairs.now = sym count.0 ∙ ap fitting lent in
-    let w = written putting c.args.self.now.pairs.now c.take-pairs.result.now c.put-pair-put.new.pairs c.in-Some.n lent c.put-pair-put.auto.pairs count.1 c.put-pair-put.ensures.after in
+    let w = written putting c.args.self.now.pairs.now c.take-pairs.result.now c.put_pair-put.new.pairs c.in-Some.n lent c.put_pair-put.auto.pairs count.1 c.put_pair-put.ensures.after in
     record {
       value = fits;
       after = w.after;
-      law = put_law g.K.Key.alike g.met.K.Key.exact g.met.K.Key.itself (table_capacity c.args.self.now) c.args.key c.args.words true (table_pairs c.args.self.now) (take c.in-Some.n c.put-pair-put.new.pairs) fits w.after;
-      refused = not_refused c.args.self.now.pairs.now c.put-pair-put.new.pairs;
-      slice = record { size = w.size; beyond = w.beyond; named = ap (λ r. r.name) c.take-pairs.ensures.value };
+      law = put_law g.K.Key.alike g.met.K.Key.exact g.met.K.Key.itself (table_capacity c.args.self.now) c.args.key c.args.words true (table_pairs c.args.self.now) (take c.in-Some.n c.put_pair-put.new.pairs) fits w.after;
+      refused = not_refused c.args.self.now.pairs.now c.put_pair-put.new.pairs;
+      slice = record { size = w.size; beyond = w.beyond; named = ap (λ r. r.ghost_name) c.take-pairs.ensures.value };
     }

@@ -7,6 +7,6 @@ pub returns : goal.returns
 returns c =
     let bs = c.args.self.now.line.now in
     record {
-      value = next_first bs c.args.self.now.next c.index-of-end.result (omega arith) c.index-of-end.ensures.value (omega arith);
-      after = next-unread bs c.args.self.now.next c.index-of-end.result (omega arith) c.index-of-end.ensures.value (omega arith);
+      value = next_first bs c.args.self.now.next c.index_of-end.result (omega arith) c.index_of-end.ensures.value (omega arith);
+      after = next-unread bs c.args.self.now.next c.index_of-end.result (omega arith) c.index_of-end.ensures.value (omega arith);
     }

@@ -10,5 +10,5 @@ returns-then-self c =
 
 pub returns : goal.returns
 returns c =
-    let e = lines_next c.args.self.now.text.now c.args.self.now.next c.index-of-end.result c.min-self.result (omega arith) c.index-of-end.ensures.value (omega arith) (omega arith) in
+    let e = lines_next c.args.self.now.text.now c.args.self.now.next c.index_of-end.result c.min-self.result (omega arith) c.index_of-end.ensures.value (omega arith) (omega arith) in
     record { value = sym (ap first_of e); after = sym (ap rest_of e) }

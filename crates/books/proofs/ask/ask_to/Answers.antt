@@ -9,7 +9,7 @@ use Rattle.books.proofs.ask.ask_to.Goals as goal
 
 pub returns-in_err-ask : goal.returns-in_err-ask
 returns-in_err-ask g c m =
-    let p = err_from_is_err_and c.from-residual.result c.from-residual.ensures.1 in
+    let p = err_from_is_err_and c.from_residual.result c.from_residual.ensures.1 in
     rw (p.1, p.2) (not_asked no_sheet (store_of c.args.group.now m) c.args.worker c.args.to _ (c.in_err-ask.ensures m))
 
 pub loop-i-init : goal.loop-i-init
@@ -17,12 +17,12 @@ loop-i-init g c m = refl
 
 pub loop-i-preserved : goal.loop-i-preserved
 loop-i-preserved g c m =
-    one_there (store_of c.args.group.now m) c.args.worker c.loop-i.i c.line.result (c.loop-i.invariant m) (c.line.ensures m) c.if-is-none.ensures
+    one_there (store_of c.args.group.now m) c.args.worker c.loop-i.i c.line.result (c.loop-i.invariant m) (c.line.ensures m) c.if-is_none.ensures
 
-pub returns-then-is-none : goal.returns-then-is-none
-returns-then-is-none g c m =
+pub returns-then-is_none : goal.returns-then-is_none
+returns-then-is_none g c m =
     one_missing no_sheet (store_of c.args.group.now m) c.args.worker c.loop-i.i c.args.to (c.in_ok-ask.ensures m)
-    (sym (none_of c.line.result c.if-is-none.ensures) ∙ c.line.ensures m) c.loop-i-test.true
+    (sym (none_of c.line.result c.if-is_none.ensures) ∙ c.line.ensures m) c.loop-i-test.true
 
 pub returns : goal.returns
 returns g c m =

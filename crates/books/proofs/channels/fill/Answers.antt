@@ -7,7 +7,7 @@ use Rattle.protocol.specs.Runs.{book_to}
 use Rattle.group.specs.Views.{store_of}
 use Rattle.books.proofs.Filling.{slice_on, slice_same, fill_start, fill_more, fill_gap}
 use Rattle.books.proofs.channels.fill.Goals as goal
-use Rattle.books.proofs.channels.fill.Goals.{in-Some, in-default}
+use Rattle.books.proofs.channels.fill.Goals.{in-Some, in_default}
 
 pub loop-i-init : goal.loop-i-init
 loop-i-init g c =
@@ -30,8 +30,8 @@ loop-i-preserved g c =
             (inv.0 m) (w.in-Some.ensures m) (ap capacity_of inv.1.size) (ap₂ sheet_now w.table-is w.sheet-is ∙ w.apply.ensures.after),
         slice_on first before after inv.1 (subst (SameSlice before) (sym w.table-is) w.apply.ensures.slice),
       )
-      | in-default w ↦ (
-        λ m. fill_gap k (table_capacity first) (store_of c.args.group.now m) c.args.worker c.loop-i.i (sheet_now after c.match-line.sheet) (w.in-default.ensures m),
+      | in_default w ↦ (
+        λ m. fill_gap k (table_capacity first) (store_of c.args.group.now m) c.args.worker c.loop-i.i (sheet_now after c.match-line.sheet) (w.in_default.ensures m),
         subst (SameSlice first) (sym w.table-is) inv.1,
       )
     ]

@@ -14,12 +14,12 @@ loop-i-init g c m = at_start (store_of c.args.group.now m) c.args.worker
 
 pub loop-i-preserved : goal.loop-i-preserved
 loop-i-preserved g c m =
-    one-held (store_of c.args.group.now m) c.args.worker c.loop-i.i c.line.result c.loop-i-test.true (c.loop-i.invariant m) (c.line.ensures m) c.if-is-none.ensures
+    one-held (store_of c.args.group.now m) c.args.worker c.loop-i.i c.line.result c.loop-i-test.true (c.loop-i.invariant m) (c.line.ensures m) c.if-is_none.ensures
 
-pub returns-then-is-none : goal.returns-then-is-none
-returns-then-is-none g c =
+pub returns-then-is_none : goal.returns-then-is_none
+returns-then-is_none g c =
     let end : (m : RosterModel (Entry g.row.L.Denot)) → (c.loop-i.i ≡ held_to (store_of c.args.group.now m) c.args.worker) × HeldTo (store_of c.args.group.now m) c.args.worker c.loop-i.i =
-    λ m. ended (store_of c.args.group.now m) c.args.worker c.loop-i.i (c.loop-i.invariant m) (sym (c.line.ensures m) ∙ none_of c.line.result c.if-is-none.ensures) in
+    λ m. ended (store_of c.args.group.now m) c.args.worker c.loop-i.i (c.loop-i.invariant m) (sym (c.line.ensures m) ∙ none_of c.line.result c.if-is_none.ensures) in
     record { value = λ m. (end m).0; law = λ m. (end m).1 }
 
 pub returns : goal.returns

@@ -10,7 +10,7 @@ use Rattle.books.proofs.packs.worked_out.Goals as goal
 
 pub returns-in_err-ask : goal.returns-in_err-ask
 returns-in_err-ask c m =
-    let p = err_from_is_err_and c.from-residual.result c.from-residual.ensures.1 in
+    let p = err_from_is_err_and c.from_residual.result c.from_residual.ensures.1 in
     rw (p.1, p.2) (not_asked packs_of (store_of c.args.group.now m) c.args.worker c.args.to _ (c.in_err-ask.ensures m))
 
 pub loop-i-init : goal.loop-i-init

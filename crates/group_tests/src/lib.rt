@@ -1,7 +1,6 @@
 // Tests of a group at the limits of its sizes, and of sheets that are worked out from a group of channel books.
 #![tactic(auto)]
 
-
 #[cfg(test)]
 mod tests {
     use books::{SheetFault, key_sheet};

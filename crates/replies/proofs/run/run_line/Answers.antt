@@ -1,5 +1,5 @@
 -- A command that was read is run, and a bad line leaves all as it was.
-use Rattle.std.proofs.Common.{◌≡◌, Ok, Err, refl}
+use Rattle.std.proofs.Common.{Ok, Err, refl}
 use Rattle.group.specs.Views.{store_of}
 use Rattle.replies.proofs.Leading.{reply_read, store_read, line_goes_on}
 use Rattle.replies.proofs.run.run_line.Goals as goal

@@ -1,4 +1,6 @@
 // Works out a key sheet from lines of text on standard input, and prints what each line did.
+#![tactic(auto)]
+
 use channeltext::{apply_text, read_places, sheet_text};
 use keylines::{Channel, Pair};
 use keys::{KeySheet, KeyTable};

@@ -1,8 +1,8 @@
 -- What a refused sheet tells: its number and its layer. Assumes nothing.
 --
--- | word        | meaning                                                  |
--- |-------------|----------------------------------------------------------|
--- | sheet_number | the number of a fault                                    |
+-- | word         | meaning                                                   |
+-- |--------------|-----------------------------------------------------------|
+-- | sheet_number | the number of a fault                                     |
 -- | sheet_layer  | the layer that refuses a sheet: the group, whatever fault |
 use Rattle.std.specs.Prelude.{ℕ}
 use Rattle.protocol.specs.declared.fault.Layer.{Layer}

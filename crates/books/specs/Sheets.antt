@@ -1,28 +1,28 @@
 -- Sheets that are worked out from the lines 1 to j which a worker of a group holds. Assumes nothing.
 --
--- | word            | meaning                                                                                            |
--- |-----------------|----------------------------------------------------------------------------------------------------|
--- | after           | what follows questions that were answered with yes                                                 |
--- | asked_of g w     | the questions of every sheet: the group is made (1), and has the worker w (2)                      |
--- | lines_held       | the lines, or that one of them is not held (12)                                                    |
--- | lines_to g w j   | the lines 1 to j of worker w, or the first question that is answered with no; no line is held       |
--- |                 | above 64, and for j = 0 the list is empty                                                          |
--- | works_out        | a sheet worked out from the lines of an answer                                                     |
--- | no_sheet         | nothing is worked out: the lines are only asked for                                                |
--- | asked_to g w j   | whether worker w holds the lines 1 to j, or the first question that is answered with no             |
--- | told_sheet w r   | the answer r about the worker w, with that worker in a refusal                                     |
--- | packs_of         | the pack sheet of stored lines                                                                     |
--- | pack_sheet_to     | the pack sheet of the lines 1 to j of worker w                                                     |
--- | key_sheet_to      | the key sheet of the lines 1 to j of worker w, on a table of capacity c                            |
--- | key_sheet_got     | an answer together with the table that was filled: its pairs and the counts, or the refusal        |
--- | goes_on          | the farther of two numbers where a line is held, else the nearer                                   |
--- | held_from        | where the lines after line j, and n of them at most, go on to without a gap                        |
--- | held_to g w      | the number of the last line of worker w with none missing before it; 0 where line 1 is not held     |
--- | HeldTo g w j    | worker w holds the lines 1 to j all, and not line j + 1                                            |
--- | AlikePacks      | two pack sheets have equal charge, remaining time or none, and counts                              |
--- | AlikeKeys       | two key sheets have equal pairs in every used place, and equal counts                              |
--- | EqualPackSheets | in every run that leads here, whoever has a pack sheet to j has one that equals worker w's          |
--- | EqualKeySheets  | the same of key sheets on tables of one capacity                                                   |
+-- | word            | meaning                                                                                         |
+-- |-----------------|-------------------------------------------------------------------------------------------------|
+-- | after           | what follows questions that were answered with yes                                              |
+-- | asked_of g w    | the questions of every sheet: the group is made (1), and has the worker w (2)                   |
+-- | lines_held      | the lines, or that one of them is not held (12)                                                 |
+-- | lines_to g w j  | the lines 1 to j of worker w, or the first question that is answered with no; no line is held   |
+-- |                 | above 64, and for j = 0 the list is empty                                                       |
+-- | works_out       | a sheet worked out from the lines of an answer                                                  |
+-- | no_sheet        | nothing is worked out: the lines are only asked for                                             |
+-- | asked_to g w j  | whether worker w holds the lines 1 to j, or the first question that is answered with no         |
+-- | told_sheet w r  | the answer r about the worker w, with that worker in a refusal                                  |
+-- | packs_of        | the pack sheet of stored lines                                                                  |
+-- | pack_sheet_to   | the pack sheet of the lines 1 to j of worker w                                                  |
+-- | key_sheet_to    | the key sheet of the lines 1 to j of worker w, on a table of capacity c                         |
+-- | key_sheet_got   | an answer together with the table that was filled: its pairs and the counts, or the refusal     |
+-- | goes_on         | the farther of two numbers where a line is held, else the nearer                                |
+-- | held_from       | where the lines after line j, and n of them at most, go on to without a gap                     |
+-- | held_to g w     | the number of the last line of worker w with none missing before it; 0 where line 1 is not held |
+-- | HeldTo g w j    | worker w holds the lines 1 to j all, and not line j + 1                                         |
+-- | AlikePacks      | two pack sheets have equal charge, remaining time or none, and counts                           |
+-- | AlikeKeys       | two key sheets have equal pairs in every used place, and equal counts                           |
+-- | EqualPackSheets | in every run that leads here, whoever has a pack sheet to j has one that equals worker w's      |
+-- | EqualKeySheets  | the same of key sheets on tables of one capacity                                                |
 use Rattle.std.specs.Prelude.{◌≡◌, ℕ, zero, suc, ◌+◌, Bool, cond, List, map, length, Some, None, Ok, Err, Option, Result, nat_lt}
 use Rattle.protocol.specs.Limits.{lines}
 use Rattle.protocol.specs.Runs.{History, Run, holds, book_to}

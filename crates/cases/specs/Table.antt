@@ -27,8 +27,8 @@ Holds (pack_sheet ls q t f u) = ((sheet_of ls).charge ≡ q) × (remaining_of (s
 Holds (roster_append es n p k) = refusal_number (append_answer (opened es n) p) ≡ Some k
 
 -- 9.5, which is 19 / 2
-abbrev pub nine_and_aHalf : Float
-nine_and_aHalf = fin false 19 (negsuc 0)
+abbrev pub nine_and_a_half : Float
+nine_and_a_half = fin false 19 (negsuc 0)
 
 abbrev pub table : List Row
 table =
@@ -36,7 +36,7 @@ table =
     ∷ pack_sheet (Begin (whole 36000000) ∷ Drain (whole 5000) 3600 ∷ []) (whole 18000000) (Some (whole 3600)) 2 0
     ∷ pack_sheet (Begin (whole 36000000) ∷ Drain (whole 5000) 3600 ∷ Idle 60 ∷ []) (whole 18000000) None 3 0
     ∷ pack_sheet (Begin (whole 1000) ∷ Drain (whole 10) 101 ∷ []) (whole 0) (Some (whole 0)) 2 0
-    ∷ pack_sheet (Begin (whole 1000) ∷ Drain nine_and_aHalf 1 ∷ []) (whole 1000) None 1 1
+    ∷ pack_sheet (Begin (whole 1000) ∷ Drain nine_and_a_half 1 ∷ []) (whole 1000) None 1 1
     ∷ pack_sheet (Begin (whole 1000) ∷ Drain (whole 10) 1 ∷ []) (whole 990) (Some (whole 99)) 2 0
     ∷ roster_append [] 32 2 21
     ∷ roster_append (Seat 0 ∷ []) 1 2 22

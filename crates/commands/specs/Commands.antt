@@ -2,7 +2,7 @@
 --
 -- with_one x n          the command of the letter x with one number
 -- with_two x m n        the command of the letter x with two numbers
--- one_in, two_in         a command of these numbers, in the next fields
+-- one_in, two_in        a command of these numbers, in the next fields
 -- propose_in            a Propose: the worker, the line number, and a pack line
 -- longer_in             a command of two numbers, or a Propose
 -- command_in u          a command in the next fields of u

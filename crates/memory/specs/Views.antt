@@ -1,7 +1,7 @@
 -- What a group's lent memory holds. Assumes nothing.
 --
--- store_in s m     the memory s and a roster m, as the store that the protocol's definitions are over
--- no_roster        an empty roster without a place, beside a step that knows no roster
+-- store_in s m    the memory s and a roster m, as the store that the protocol's definitions are over
+-- no_roster       an empty roster without a place, beside a step that knows no roster
 -- SizedIn g       the sizes of the store g are those of a group
 use Rattle.std.specs.Prelude.{[], length}
 use Rattle.roster.specs.declared.entry.Entry.{Entry}

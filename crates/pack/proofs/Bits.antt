@@ -2,12 +2,12 @@
 use Rattle.std.proofs.Common.{◌≡◌, ℕ, ◌^◌, ◌<◌, not, T, sym, refl, ap, ◌∙◌, subst, inl, inr}
 use lib.Ieee.{Float, binary64, fits, of_bits, to_bits}
 use lib.Ieee.Bits.{of_bits-to_bits, to_bits-of_bits, nan_bits_is}
-use Rattle.pack.specs.Stored.{not_aNumber, stored_float, restored_float, ExactBits}
+use Rattle.pack.specs.Stored.{not_a_number, stored_float, restored_float, ExactBits}
 
 pub float_back : (x : Float) (b : ℕ) → T (fits binary64 x) → b ≡ stored_float x → restored_float b ≡ x
 float_back x b f e = ap restored_float e ∙ of_bits-to_bits binary64 x f
 
-mark_back : stored_float (restored_float not_aNumber) ≡ not_aNumber
+mark_back : stored_float (restored_float not_a_number) ≡ not_a_number
 unfolding of_bits to_bits
 mark_back = refl
 

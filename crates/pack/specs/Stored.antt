@@ -1,6 +1,6 @@
 -- A pack line as whole numbers, as it lies in lent memory. Assumes nothing.
 --
--- not_aNumber        the mark in the place of the bits of every float that is not a number
+-- not_a_number        the mark in the place of the bits of every float that is not a number
 -- stored_float x     the binary64 bits of x, or the mark
 -- restored_float b   the float of these bits; not a number for the mark
 -- stored_of l        the stored form of the line l
@@ -17,8 +17,8 @@ use Rattle.pack.specs.declared.stored.StoredPackLine.{StoredPackLine}
 use Rattle.pack.specs.declared.stored.StoredPackLine.TheVariants as Stored
 use Rattle.pack.specs.Sheets.{applied}
 
-abbrev pub not_aNumber : ℕ
-not_aNumber = 0x7ff8_0000_0000_0000
+abbrev pub not_a_number : ℕ
+not_a_number = 0x7ff8_0000_0000_0000
 
 -- minus zero and the infinities have bits of their own
 abbrev pub stored_float : Float → ℕ
@@ -41,7 +41,7 @@ abbrev pub WorksAlike : PackLine → PackLine → Type 0
 WorksAlike l l' = (s : PackSheet) → applied s l' ≡ applied s l
 
 abbrev pub ExactBits : ℕ → Type 0
-ExactBits b = (nan_bits binary64 b ≡ false) ⊎ (b ≡ not_aNumber)
+ExactBits b = (nan_bits binary64 b ≡ false) ⊎ (b ≡ not_a_number)
 
 abbrev pub Exact : StoredPackLine → Type 0
 Exact (Stored.Begin b) = ExactBits b

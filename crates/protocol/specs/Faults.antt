@@ -1,9 +1,9 @@
 -- What a refusal tells: its number, its worker and its layer. Assumes nothing.
 --
 -- number f          the number of the fault f; a roster's fault keeps its own
--- layer_of f         the layer that refuses: the group, or its roster
--- worker_in s        the worker that the step s was given: for Found the seat, for Lose 0
--- told_of w r        the answer r of a step that was given the worker w, with that worker in a refusal
+-- layer_of f        the layer that refuses: the group, or its roster
+-- worker_in s       the worker that the step s was given: for Found the seat, for Lose 0
+-- told_of w r       the answer r of a step that was given the worker w, with that worker in a refusal
 use Rattle.std.specs.Prelude.{ℕ, Ok, Err, Result}
 use Rattle.roster.specs.Faults.{fault_number}
 use Rattle.protocol.specs.declared.fault.Layer.{Layer}

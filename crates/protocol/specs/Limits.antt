@@ -1,8 +1,8 @@
 -- The limits of a group and of its book. Assumes nothing.
 --
--- lines                      the lines of a book
--- workers_min, workers_max     the fewest and the most workers of a group
--- messages_min, messages_max   the fewest and the most message places
+-- lines                       the lines of a book
+-- workers_min, workers_max    the fewest and the most workers of a group
+-- messages_min, messages_max  the fewest and the most message places
 use Rattle.std.specs.Prelude.{ℕ}
 
 abbrev pub lines : ℕ

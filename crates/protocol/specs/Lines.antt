@@ -1,9 +1,9 @@
 -- Line numbers, sets of lines, and cells. Assumes nothing.
 --
--- in_book k       k is a line number, from 1 to 64
--- bit_of k        the bit of line k in a set of lines, which is a 64-bit number; 0 for what is no line number
+-- in_book k      k is a line number, from 1 to 64
+-- bit_of k       the bit of line k in a set of lines, which is a 64-bit number; 0 for what is no line number
 -- marked m k     the set m has line k
--- cell_of w k     the place of line k of worker w in a table of 64 cells a worker
+-- cell_of w k    the place of line k of worker w in a table of 64 cells a worker
 use Rattle.std.specs.Prelude.{ℕ, ◌+◌, ◌-◌, ◌*◌, ◌^◌, Bool, cond, ◌&&◌, bit_and, nat_le, nat_lt}
 use Rattle.protocol.specs.Limits.{lines}
 

@@ -6,7 +6,7 @@
 -- holds g w k         the line that worker w holds as line k
 -- Run L g h           some run leads to the store g with the history h
 -- Event               a step, or the owner's opening or shutting of the roster
--- book_to g w j        the lines 1 to j, where worker w holds them all
+-- book_to g w j       the lines 1 to j, where worker w holds them all
 -- Way                 a list of steps to line k
 -- Agreement, Origin, Permanence, EqualSheets, Progress: the promises
 use Rattle.std.specs.Prelude.{◌≡◌, ℕ, zero, suc, ◌+◌, ◌-◌, ◌*◌, ◌<◌, ◌≤◌, true, false, cond, List, [], ◌∷◌, ◌++◌, length, replicate, is_ok, Some, None, Ok, Err, Option, Result, ◌≢◌}

@@ -1,6 +1,6 @@
 -- The sizes that a group is made with. Assumes nothing.
 --
--- sized_test    3 to 8 workers, 64 cells a worker in each of three tables, and 16 to 4,096 message places
+-- sized_test   3 to 8 workers, 64 cells a worker in each of three tables, and 16 to 4,096 message places
 -- Sized        the same as facts
 use Rattle.std.specs.Prelude.{◌≡◌, ℕ, ◌*◌, ◌≤◌, Bool, ◌&&◌, ◌==◌, nat_le}
 use Rattle.protocol.specs.Limits.{lines, workers_min, workers_max, messages_min, messages_max}

@@ -3,14 +3,14 @@
 -- Store               what the group and its roster hold: worker records, three tables of 64 cells a worker, the messages and the number
 --                     of their places, and the roster
 -- Same a b            the stores a and b agree in each part
--- cell_at, put_cell     the cell of line k of worker w, and a table with that cell changed; a number that is no line number changes nothing
+-- cell_at, put_cell   the cell of line k of worker w, and a table with that cell changed; a number that is no line number changes nothing
 -- cleared             a worker's cells without the lines that a set does not have
--- lines_in, reports    how many of a worker's cells have a line, and a Report of each, in rising line order
--- STEPResult          what a step answers: the questions in their order, the first no with its fault
--- STEPDone            the store after a step that is not refused
--- made_of              the store of a group that was made in lent tables: emptied where the sizes are right
--- step_after s g       the store after the step s, refused or not: a refused step changes nothing
--- step_answer s g      what is told to the caller
+-- lines_in, reports   how many of a worker's cells have a line, and a Report of each, in rising line order
+-- STEP_result         what a step answers: the questions in their order, the first no with its fault
+-- STEP_done           the store after a step that is not refused
+-- made_of             the store of a group that was made in lent tables: emptied where the sizes are right
+-- step_after s g      the store after the step s, refused or not: a refused step changes nothing
+-- step_answer s g     what is told to the caller
 -- Each step gets the questions that concern it, in the order of their numbers.
 use Rattle.std.specs.Prelude.{◌≡◌, ℕ, zero, suc, ◌+◌, ◌-◌, ◌*◌, Bool, true, false, cond, not, ◌&&◌, ◌||◌, List, [], ◌∷◌, ◌++◌, length, take, replicate, Some, None, Ok, Err, Option, Result, ◌==◌, bit_or, count_ones, nat_lt, slice_index_or, slice_set}
 use Rattle.roster.specs.declared.entry.Entry.{Entry}

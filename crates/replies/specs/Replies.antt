@@ -1,13 +1,13 @@
 -- What is answered to the lines of a script, and what they do to a group. Assumes nothing.
 --
--- step_reply r        what is answered to a step with the answer r
--- sheet_reply j r     what is answered to a question for the sheet to line j with the answer r
--- reply_to g c        what is answered to the command c; a sheet goes to the last line with none missing before it
--- store_after g c     the group and its roster after the command c: a question changes nothing
--- history_after       the history of a run after the command c
--- reply_of g bs       what is answered to the line bs
--- store_on g bs       the group and its roster after the line bs: a bad line changes nothing
--- history_on          the history of a run after the line bs
+-- step_reply r       what is answered to a step with the answer r
+-- sheet_reply j r    what is answered to a question for the sheet to line j with the answer r
+-- reply_to g c       what is answered to the command c; a sheet goes to the last line with none missing before it
+-- store_after g c    the group and its roster after the command c: a question changes nothing
+-- history_after      the history of a run after the command c
+-- reply_of g bs      what is answered to the line bs
+-- store_on g bs      the group and its roster after the line bs: a bad line changes nothing
+-- history_on         the history of a run after the line bs
 -- LineGoesOn         from whatever run led to the store g, the line bs leads on to g', where all promises hold
 use Rattle.std.specs.Prelude.{ℕ, List, Ok, Err, Result}
 use Rattle.pack.specs.declared.sheet.PackSheet.{PackSheet}

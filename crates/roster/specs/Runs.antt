@@ -1,13 +1,13 @@
 -- What becomes of a roster under any sequence of calls. Assumes nothing.
 --
---   after_call c m     the roster after the call c
---   after_calls cs m   the roster after the calls cs, one after the other
+--   after_call c m    the roster after the call c
+--   after_calls cs m  the roster after the calls cs, one after the other
 --   BeginsWith es fs  the list es begins with fs: it is fs, and then perhaps more
 --   Grown m n         n has the entries of m at their places and perhaps more after them, within the capacity of m, in its state
 --   EntriesStay E     the law of all rosters of entries of kind E, for any roster m and any calls cs
---     .grown            the list only grows, and never passes the capacity
---     .stays            an entry that is read at a place is read there after any calls
---     .back             an entry that was appended at a place is read there after any calls
+--     .grown          the list only grows, and never passes the capacity
+--     .stays          an entry that is read at a place is read there after any calls
+--     .back           an entry that was appended at a place is read there after any calls
 use Rattle.std.specs.Prelude.{◌≡◌, ℕ, true, List, [], ◌∷◌, ◌++◌, Ok}
 use Rattle.roster.specs.declared.runs.Call.{Call}
 use Rattle.roster.specs.declared.runs.Call.TheVariants.{Append, Read}

@@ -1,8 +1,8 @@
 -- What a plain roster stands for. Assumes nothing.
 --
---   capacity_in t   the capacity of a roster in the table t: its length, within the limit of all rosters
---   empty_in t      an empty roster in the table t
---   plain_model s   always open; its list is the used part of the table
+--   capacity_in t  the capacity of a roster in the table t: its length, within the limit of all rosters
+--   empty_in t     an empty roster in the table t
+--   plain_model s  always open; its list is the used part of the table
 --   beyond s       what lies in the table past the capacity, which is none of the roster's
 use Rattle.std.specs.Prelude.{ℕ, min, List, [], length, take, drop}
 use Rattle.roster.specs.declared.plain.PlainRoster.{PlainRoster}

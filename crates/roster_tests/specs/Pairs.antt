@@ -3,8 +3,8 @@
 --   since r s             the answer s, unless r was a refusal
 --   one m p x             the roster after an append of x at p
 --   onto r m n            the roster n, unless r was a refusal: then m
---   pair_answer m p x y    the answer to appends of x at p and of y at the place after it, and a read of p, up to a refusal
---   pair_after m p x y     the roster then
+--   pair_answer m p x y   the answer to appends of x at p and of y at the place after it, and a read of p, up to a refusal
+--   pair_after m p x y    the roster then
 use Rattle.std.specs.Prelude.{ℕ, ◌+◌, Ok, Err, Result}
 use Rattle.roster.specs.declared.fault.RosterFault.{RosterFault}
 use Rattle.roster.specs.Answers.{append_answer, appended_to, read_answer}

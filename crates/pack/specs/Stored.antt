@@ -1,6 +1,6 @@
 -- A pack line as whole numbers, as it lies in lent memory. Assumes nothing.
 --
--- not_a_number        the mark in the place of the bits of every float that is not a number
+-- not_a_number       the mark in the place of the bits of every float that is not a number
 -- stored_float x     the binary64 bits of x, or the mark
 -- restored_float b   the float of these bits; not a number for the mark
 -- stored_of l        the stored form of the line l

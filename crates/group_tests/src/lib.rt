@@ -11,6 +11,7 @@ mod tests {
     use roster::{Entry, PlainRoster};
     use std::alloc::AllocError;
     use std::test::Fail;
+    use storage::Storage;
 
     // Whether a group can be made of so many records, cells in each table and message places.
     fn can_make(
@@ -19,24 +20,13 @@ mod tests {
         cells: usize,
         places: usize,
     ) -> Result<bool, AllocError> {
-        let heap = rt.alloc();
         let unsent = Message::Learn {
             from: 0,
             line: 0,
             value: 0u32,
         };
-        let mut workers = vec![in heap; Worker::default(); records]?;
-        let mut hand = vec![in heap; None; cells]?;
-        let mut accepted = vec![in heap; None; cells]?;
-        let mut learned = vec![in heap; None; cells]?;
-        let mut messages = vec![in heap; unsent; places]?;
-        let group = Group::new(
-            workers.as_mut_slice(),
-            hand.as_mut_slice(),
-            accepted.as_mut_slice(),
-            learned.as_mut_slice(),
-            messages.as_mut_slice(),
-        );
+        let mut storage = Storage::new(rt.alloc(), records, cells, places, unsent)?;
+        let group = storage.group();
         Ok(group.workers().is_some())
     }
 

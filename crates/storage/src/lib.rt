@@ -1,0 +1,6 @@
+// Memory for a group, kept by its owner and lent to one group at a time.
+#![tactic(auto)]
+
+mod storage;
+
+pub use storage::Storage;

@@ -22,8 +22,7 @@ fn counted(x: Worker, count: u32) -> Worker
 {
     Worker {
         taken: count == x.reported.count_ones(),
-        counted: true,
-        count,
+        count: Some(count),
         ..x
     }
 }
@@ -34,7 +33,7 @@ fn reported(x: Worker, k: usize) -> Worker
 {
     let lines = x.reported | bit(k);
     Worker {
-        taken: x.counted && x.count == lines.count_ones(),
+        taken: x.count == Some(lines.count_ones()),
         reported: lines,
         ..x
     }

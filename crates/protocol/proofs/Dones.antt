@@ -1,6 +1,7 @@
 -- What a step does to the store, it does to what the store says.
-use Rattle.std.proofs.Common.{◌≡◌, ℕ, zero, suc, ◌-◌, ◌*◌, ◌<◌, Bool, true, false, cond, ◌&&◌, eqb, ltb, List, [], ◌∷◌, ◌++◌, length, take, set, Some, None, Err, Option, sym, refl, ap, ◌∙◌, ap₂, add-one, arith, length-set}
+use Rattle.std.proofs.Common.{◌≡◌, ℕ, zero, suc, ◌-◌, ◌*◌, ◌<◌, true, eqb, ltb, List, [], ◌∷◌, ◌++◌, length, take, set, Some, None, Err, Option, sym, refl, ap, ◌∙◌, ap₂, add-one, arith, length-set}
 use mathlib.Core.Path.{fun_ext}
+use Rattle.std.specs.Option.{option_eq}
 use Rattle.std.proofs.lemmas.Bool.{cond-true, cond_both, ltb-true, and_parts}
 use Rattle.roster.specs.declared.entry.Entry.{Entry}
 use Rattle.roster.specs.declared.entry.Entry.TheVariants.{Lead as lead, Seat as seat, Carry as carry}
@@ -13,14 +14,13 @@ use Rattle.protocol.specs.declared.message.Message.TheVariants.{Prepare as Prepa
 use Rattle.protocol.specs.declared.step.Step.{Step}
 use Rattle.protocol.specs.declared.step.Step.TheVariants.{Found, Read, Lead, Prepare, Propose, Carry, Reseat, Deliver, Lose}
 use Rattle.protocol.proofs.Put.{put}
-use Rattle.protocol.proofs.Roles.{Seated, Leader, ready, sits, read_lead, read_seat, read_carry, leads, carries, takes, settle, counts, accepts, reports as reports-to}
+use Rattle.protocol.proofs.Roles.{Seated, Leader, sits, read_lead, read_seat, read_carry, leads, carries, takes, settle, counts, accepts, reports as reports-to}
 use Rattle.protocol.proofs.Msg.{Msg}
 use Rattle.protocol.proofs.Msg.Msg.{promise, learn}
 use Rattle.protocol.proofs.Model.{is_some, nth, asks, does, with_leader, with_seated, with_held, with_msgs, send, reads, proposes, carrying, delivers, lose_at, report_all, fills as fills-in}
 use Rattle.protocol.specs.Items.{item_at}
 use Rattle.protocol.specs.Lines.{in_book, marked, bit_of, cell_of}
 use lib.Bits.{bit_or}
-use lib.Count.{ones}
 use Rattle.protocol.specs.Store.{Store, blank, worker_of, cell_at, lines_in, reports, seated_cells, cleared, step_done, with_worker, with_hand, with_accepted, with_learned, with_messages, entering, sending, read_worker, read_by, lead_worker, line_sent, carry_worker, carry_by, seated_worker, counted_worker, reported_worker, deliver_by, fills, lose_by}
 use Rattle.protocol.proofs.Cells.{cell, marked_or, ones_marked, or_fits, set_own, set_away, clear_own, clear_away, clear-length}
 use Rattle.protocol.proofs.Tools.{put_both}
@@ -30,10 +30,6 @@ use Rattle.protocol.proofs.View.{view, bares, bare_of, bares_length, bares_item,
 
 put_noop : {X : Type 0} (f : ℕ → X) (k : ℕ) (v : X) → f k ≡ v → (j : ℕ) → put f k v j ≡ f j
 put_noop f k v e j = put_both (λ o. o ≡ f j) f k v j (λ here. sym e ∙ ap f (sym here)) (λ apart. refl)
-
-ready_is : (b : Bool) (n m : ℕ) (f : ℕ → Bool) → ones m ≡ tally f 64 → b && eqb n (ones m) ≡ ready (cond b (Some n) None) f
-ready_is false n m f e = refl
-ready_is true n m f e = ap (eqb n) e
 
 item_nth : {X : Type 0} (xs : List X) (i : ℕ) → item_at xs i ≡ nth xs i
 unfolding item_at
@@ -143,7 +139,7 @@ module _ {L : Type 0} where
         ap (λ q. view (with_worker w (reported_worker (worker_of g w) k) (with_hand q g))) (cond-true (in_book k) (set g.hand (cell_of w k) (Some l)) g.hand ok)
         ∙ by_leader g w (reported_worker (worker_of g w) k) (set g.hand (cell_of w k) (Some l)) (settle (reports-to k l ((view g).leader w))) low
         (leader_path (leader_of (reported_worker (worker_of g w) k) (cell (set g.hand (cell_of w k) (Some l)) w)) (settle (reports-to k l ((view g).leader w))) refl refl refl refl
-        (ready_is (worker_of g w).counted (worker_of g w).count (bit_or (worker_of g w).reported (bit_of k)) (put (marked (worker_of g w).reported) k true)
+        (ap (λ n. option_eq eqb (worker_of g w).count (Some n))
         (ones_marked (bit_or (worker_of g w).reported (bit_of k)) (or_fits (worker_of g w).reported k (each_get_d Masked g.workers w blank (omega arith) fit.masks)) ∙ ap (λ f. tally f 64) more))
         refl more (set_own g.hand (length g.workers) w fit.sized.hands low k (Some l) ok) refl)
         (set_away g.hand (length g.workers) w fit.sized.hands low k (Some l) ok) refl refl

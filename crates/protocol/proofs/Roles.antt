@@ -1,5 +1,6 @@
 -- One worker of the model, as leader and as acceptor, and what the steps do to it.
 use Rattle.std.proofs.Common.{ℕ, suc, Bool, true, false, cond, eqb, ltb, Some, None, Option}
+use Rattle.std.specs.Option.{option_eq}
 use Rattle.protocol.specs.Words.{tally}
 use Rattle.protocol.proofs.Put.{put}
 
@@ -22,8 +23,7 @@ pub record Leader (L : Type 0) : Type 0 where
   pub carried : ℕ → Bool
 
 abbrev pub ready : Option ℕ → (ℕ → Bool) → Bool
-ready None f = false
-ready (Some n) f = eqb n (tally f 64)
+ready o f = option_eq eqb o (Some (tally f 64))
 
 module _ {L : Type 0} where
   -- it has read a Lead, and its claim is over

@@ -1,5 +1,5 @@
 -- What the lists say of each worker, and what keeps them in shape.
-use Rattle.std.proofs.Common.{◌≡◌, ℕ, zero, suc, ◌^◌, ◌<◌, true, cond, List, [], ◌∷◌, ◌++◌, length, get_or, take, set, Some, None, Option, sym, refl, ap, ◌∙◌, ap₂}
+use Rattle.std.proofs.Common.{◌≡◌, ℕ, zero, suc, ◌^◌, ◌<◌, true, List, [], ◌∷◌, ◌++◌, length, get_or, take, set, Some, None, Option, sym, refl, ap, ◌∙◌, ap₂}
 use Rattle.std.proofs.lemmas.List.{get_or-set_same, get_or-set_other}
 use Rattle.roster.specs.declared.entry.Entry.{Entry}
 use Rattle.roster.specs.declared.entry.Entry.TheVariants.{Lead as lead, Seat as seat, Carry as carry}
@@ -41,7 +41,7 @@ module _ {L : Type 0} where
   bare_of (Some m) = Some (bare m)
 
   abbrev pub leader_of : Worker → (ℕ → Option L) → Leader L
-  leader_of x hand = record { r = x.mark; e = x.epoch; a = x.seat; c = x.claim; taken = x.taken; count = cond x.counted (Some x.count) None; reported = marked x.reported; hand = hand; carried = marked x.carried }
+  leader_of x hand = record { r = x.mark; e = x.epoch; a = x.seat; c = x.claim; taken = x.taken; count = x.count; reported = marked x.reported; hand = hand; carried = marked x.carried }
 
   abbrev pub seated_of : Worker → (ℕ → Option L) → Seated L
   seated_of x cells = record { s = x.sits; p = x.promise; cells = cells }

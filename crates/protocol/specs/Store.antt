@@ -12,7 +12,8 @@
 -- step_after s g      the store after the step s, refused or not: a refused step changes nothing
 -- step_answer s g     what is told to the caller
 -- Each step gets the questions that concern it, in the order of their numbers.
-use Rattle.std.specs.Prelude.{◌≡◌, ℕ, zero, suc, ◌+◌, ◌-◌, ◌*◌, Bool, true, false, cond, not, ◌&&◌, ◌||◌, List, [], ◌∷◌, ◌++◌, length, take, replicate, Some, None, Ok, Err, Option, Result, ◌==◌, bit_or, count_ones, nat_lt, slice_index_or, slice_set}
+use Rattle.std.specs.Prelude.{◌≡◌, ℕ, zero, suc, ◌+◌, ◌-◌, ◌*◌, Bool, true, false, cond, not, ◌&&◌, ◌||◌, List, [], ◌∷◌, ◌++◌, length, take, replicate, Some, None, Ok, Err, Option, Result, ◌==◌, bit_or, count_ones, nat_eq, nat_lt, slice_index_or, slice_set}
+use Rattle.std.specs.Option.{option_eq}
 use Rattle.roster.specs.declared.entry.Entry.{Entry}
 use Rattle.roster.specs.declared.entry.Entry.TheVariants.{Lead as lead, Seat as seat, Carry as carry}
 use Rattle.roster.specs.declared.fault.RosterFault.{RosterFault}
@@ -61,8 +62,7 @@ blank =
       seat = 0;
       claim = 0;
       taken = false;
-      counted = false;
-      count = 0;
+      count = None;
       reported = 0;
       carried = 0;
       sits = 0;
@@ -149,8 +149,7 @@ lead_worker x =
       seat = x.seat;
       claim = x.mark + 1;
       taken = false;
-      counted = false;
-      count = 0;
+      count = None;
       reported = 0;
       carried = x.carried;
       sits = x.sits;
@@ -183,7 +182,6 @@ carry_worker k x =
       seat = x.seat;
       claim = x.claim;
       taken = x.taken;
-      counted = x.counted;
       count = x.count;
       reported = x.reported;
       carried = bit_or x.carried (bit_of k);
@@ -213,7 +211,6 @@ seated_worker x e c =
       seat = x.seat;
       claim = x.claim;
       taken = x.taken;
-      counted = x.counted;
       count = x.count;
       reported = x.reported;
       carried = x.carried;
@@ -230,8 +227,7 @@ counted_worker x n =
       seat = x.seat;
       claim = x.claim;
       taken = (n == count_ones x.reported);
-      counted = true;
-      count = n;
+      count = Some n;
       reported = x.reported;
       carried = x.carried;
       sits = x.sits;
@@ -246,8 +242,7 @@ reported_worker x k =
       epoch = x.epoch;
       seat = x.seat;
       claim = x.claim;
-      taken = x.counted && (x.count == count_ones (bit_or x.reported (bit_of k)));
-      counted = x.counted;
+      taken = option_eq nat_eq x.count (Some (count_ones (bit_or x.reported (bit_of k))));
       count = x.count;
       reported = bit_or x.reported (bit_of k);
       carried = x.carried;
@@ -337,7 +332,6 @@ module _ {L : Type 0} where
         seat = x.seat;
         claim = 0;
         taken = false;
-        counted = x.counted;
         count = x.count;
         reported = x.reported;
         carried = x.carried;
@@ -351,7 +345,6 @@ module _ {L : Type 0} where
         seat = a;
         claim = x.claim;
         taken = x.taken;
-        counted = x.counted;
         count = x.count;
         reported = x.reported;
         carried = x.carried;
@@ -365,7 +358,6 @@ module _ {L : Type 0} where
         seat = x.seat;
         claim = x.claim;
         taken = x.taken;
-        counted = x.counted;
         count = x.count;
         reported = x.reported;
         carried = bit_or x.carried (bit_of k);

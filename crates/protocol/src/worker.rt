@@ -13,9 +13,8 @@ pub struct Worker {
     pub claim: u32,
     // whether that claim is taken up
     pub taken: bool,
-    // whether a promised count has come, and the count
-    pub counted: bool,
-    pub count: u32,
+    // the promised count, if one has come
+    pub count: Option<u32>,
     // the set of lines reported, and the set of lines in hand that are carried: line k is bit k - 1
     pub reported: u64,
     pub carried: u64,

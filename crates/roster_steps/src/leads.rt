@@ -51,8 +51,7 @@ pub fn lead<L: Copy, R: Roster<Entry<L>>>(
         mark: place,
         claim: place,
         taken: false,
-        counted: false,
-        count: 0,
+        count: None,
         reported: 0,
         ..x
     };

@@ -1,7 +1,7 @@
 -- Counting and reporting one cell more, and how many Reports there are.
 use Rattle.std.proofs.Common.{◌≡◌, ℕ, zero, suc, ◌+◌, ◌-◌, ◌*◌, ◌<◌, ◌≤◌, List, [], ◌∷◌, ◌++◌, length, get_or, Some, None, Option, sym, refl, ap, ◌∙◌, add-zero, add-suc, add-one, arith}
 use Rattle.protocol.specs.declared.message.Message.TheVariants.{Report}
-use Rattle.std.proofs.lemmas.List.{get_or_read, append-nil}
+use Rattle.std.proofs.lemmas.List.{get_or_read, append-nil, length-append}
 use Rattle.protocol.specs.declared.message.Message.{Message}
 use Rattle.protocol.specs.Store.{lines_in, reports, report_of, held}
 
@@ -47,26 +47,22 @@ reports_some w to e c n cells x v h r s = reports_more w to e c n cells x h r �
 pub reports-empty : {L : Type 0} (w to e c n : ℕ) (cells : List (Option L)) (x : Option L) → 64 * w + n < length cells → x ≡ get_or cells (64 * w + n) x → x ≡ None → reports w to e c (n + 1) cells ≡ reports w to e c n cells
 reports-empty w to e c n cells x h r s = reports_more w to e c n cells x h r ∙ ap (λ o. reports w to e c n cells ++ report_of w to e c (n + 1) o) s ∙ append-nil (reports w to e c n cells)
 
-length_both : {X : Type 0} (xs ys : List X) → length (xs ++ ys) ≡ length xs + length ys
-length_both [] ys = omega arith
-length_both (x ∷ xs) ys = let z = length_both xs ys in omega arith
-
 report_one : {L : Type 0} (w to e c k : ℕ) (o : Option L) → length (report_of w to e c k o) ≡ held o
 report_one w to e c k None = refl
 report_one w to e c k (Some l) = refl
 
 -- as many reports as lines
-pub reports-length : {L : Type 0} (w to e c n : ℕ) (cells : List (Option L)) → length (reports w to e c n cells) ≡ lines_in w n cells
+reports-length : {L : Type 0} (w to e c n : ℕ) (cells : List (Option L)) → length (reports w to e c n cells) ≡ lines_in w n cells
 unfolding reports lines_in
 reports-length w to e c zero cells = refl
 reports-length w to e c (suc n) cells =
-    let a = length_both (reports w to e c n cells) (report_of w to e c (n + 1) (get_or cells (64 * w + n) None)) in
+    let a = length-append (reports w to e c n cells) (report_of w to e c (n + 1) (get_or cells (64 * w + n) None)) in
     let b = reports-length w to e c n cells in
     let d = report_one w to e c (n + 1) (get_or cells (64 * w + n) None) in
     omega arith
 
 pub sent_length : {L : Type 0} (w to e c n : ℕ) (cells : List (Option L)) (old all : List (Message L)) → all ≡ old ++ reports w to e c n cells → length all ≡ length old + lines_in w n cells
-sent_length w to e c n cells old all h = ap length h ∙ length_both old (reports w to e c n cells) ∙ ap (λ q. length old + q) (reports-length w to e c n cells)
+sent_length w to e c n cells old all h = ap length h ∙ length-append old (reports w to e c n cells) ∙ ap (λ q. length old + q) (reports-length w to e c n cells)
 
 -- cells that add no line to the count add no report
 reports_grow : {L : Type 0} (w to e c n d : ℕ) (cells : List (Option L)) → lines_in w (n + d) cells ≡ lines_in w n cells → reports w to e c (n + d) cells ≡ reports w to e c n cells
@@ -97,6 +93,3 @@ lines-few w (suc n) cells = let a = lines-few w n cells in let b = few (get_or c
     few : {L : Type 0} (o : Option L) → held o ≤ 1
     few None = omega arith
     few (Some l) = omega arith
-
-pub one_more : {X : Type 0} (xs ys : List X) (x : X) → ys ≡ xs ++ x ∷ [] → length ys ≡ length xs + 1
-one_more xs ys x e = ap length e ∙ length_both xs (x ∷ [])

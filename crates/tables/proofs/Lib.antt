@@ -1,5 +1,3 @@
-pub mod Items
-pub mod Clears
-pub mod Marking
-pub mod Losing
 pub mod Counts
+pub mod Items
+pub mod Rows

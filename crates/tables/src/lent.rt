@@ -1,8 +1,8 @@
 // Memory that is lent: a whole table, and a list in the first places of one.
-ghost use Rattle.std.specs.Prelude.{◌≡◌, ◌+◌, ◌-◌, ◌<◌, [], ◌∷◌, ◌++◌, length, Some, slice_index_or, slice_set};
+ghost use Rattle.std.specs.Prelude.{◌≡◌, ◌+◌, ◌-◌, ◌<◌, [], ◌∷◌, ◌++◌, drop, length, Some};
 ghost use Rattle.protocol.specs.Items.{item_at};
 ghost use Rattle.protocol.specs.Store.{lost_at};
-ghost use Rattle.tables.specs.Views.{list_of, places_of};
+ghost use Rattle.tables.specs.Views.{free_of, list_of, places_of};
 
 // A lent table, all of it used.
 #[derive(Drop)]
@@ -46,7 +46,7 @@ impl<'a, T: Copy> LentList<'a, T> {
         requires { i < length (list_of self.now) }
         ensures { item_at (list_of self.now) i ≡ Some result }
     {
-        item_at(self.table, i)
+        self.table[i]
     }
 
     // One item more at the end.
@@ -54,10 +54,10 @@ impl<'a, T: Copy> LentList<'a, T> {
         requires { length (list_of self.old) < places_of self.old }
         ensures items { list_of self.new ≡ list_of self.old ++ item ∷ [] }
         ensures places { places_of self.new ≡ places_of self.old }
+        ensures free { free_of self.new ≡ drop 1 (free_of self.old) }
     {
-        let at = self.len;
-        put_at(self.table, at, item);
-        self.len = at + 1;
+        self.table[self.len] = item;
+        self.len += 1;
     }
 
     // The last item takes the index m, and there is one fewer.
@@ -65,26 +65,10 @@ impl<'a, T: Copy> LentList<'a, T> {
         requires { m < length (list_of self.old) }
         ensures items { list_of self.new ≡ lost_at (item_at (list_of self.old) (length (list_of self.old) - 1)) m (list_of self.old) }
         ensures places { places_of self.new ≡ places_of self.old }
+        ensures free { drop 1 (free_of self.new) ≡ free_of self.old }
     {
-        let n = self.len();
-        let last = self.get(n - 1);
-        put_at(self.table, m, last);
-        self.len = n - 1;
+        let last = self.len() - 1;
+        self.table[m] = self.get(last);
+        self.len = last;
     }
-}
-
-// Puts an item at an index.
-fn put_at<T: Copy>(table: &mut [T], i: usize, item: T)
-    requires { i < length table.old }
-    ensures { table.new ≡ slice_set table.old i item }
-{
-    table[i] = item;
-}
-
-// The item at an index.
-fn item_at<T: Copy>(table: &[T], i: usize) -> T
-    requires { i < length table.now }
-    ensures { result ≡ slice_index_or table.now i result }
-{
-    table[i]
 }

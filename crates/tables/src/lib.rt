@@ -2,13 +2,10 @@
 #![tactic(auto)]
 
 mod cells;
-mod counted;
 mod lent;
 mod reports;
 mod sets;
 
-pub use cells::{all_marked, clear_unmarked, fill_all, fill_cell, put_cell};
-pub use counted::send_counted;
 pub use lent::{LentList, Table};
-pub use reports::{count_lines, send_reports};
-pub use sets::{bit, has};
+pub use reports::send_counted;
+pub use sets::{LINES, bit, has};

@@ -2,14 +2,18 @@
 ghost use Rattle.std.specs.Prelude.{◌≡◌};
 ghost use Rattle.protocol.specs.Lines.{bit_of, marked};
 
+// The lines of a book, and so the cells of a worker in a table. Lines are numbered from 1.
+pub const LINES: usize = 64;
+
 // The set of line k alone; empty for a number that no line has.
 pub fn bit(k: usize) -> u64
     ensures { result ≡ bit_of k }
 {
-    if k < 1 || k > 64 {
-        return 0;
+    if (1..=LINES).contains(&k) {
+        1 << (k - 1)
+    } else {
+        0
     }
-    1u64 << (k - 1)
 }
 
 // Whether a set has line k.

@@ -1,7 +1,0 @@
--- The used places are no more than the table has.
-use Rattle.std.proofs.Common.{sym, ◌∙◌}
-use Rattle.std.proofs.lemmas.List.{length-take}
-use Rattle.tables.proofs.lent.LentList.len.Goals as goal
-
-pub returns : goal.returns
-returns g c = c.min.ensures ∙ sym (length-take c.args.self.now.len c.args.self.now.table.now)

@@ -1,25 +1,17 @@
 -- Entries stay at their places under any calls, by induction on the calls: one call adds at most one entry, at the end.
-use Rattle.std.proofs.Common.{◌≡◌, ℕ, zero, suc, ◌+◌, ◌-◌, ◌<◌, Bool, true, false, cond, List, [], ◌∷◌, ◌++◌, length, Ok, Err, Result, sym, refl, ap, ◌∙◌, arith}
-use Rattle.std.proofs.lemmas.List.{append-nil, append_assoc, length_push, get_or_push}
+use Rattle.std.proofs.Common.{◌≡◌, ℕ, zero, suc, ◌+◌, ◌-◌, ◌<◌, true, List, [], ◌∷◌, ◌++◌, length, Ok, Err, Result, sym, refl, ap, ◌∙◌, arith}
+use Rattle.std.proofs.lemmas.List.{append-nil, append_assoc, length_push}
 use Rattle.std.proofs.lemmas.Bool.Decides.{nat_tests}
 use Rattle.roster.specs.declared.runs.Call.{Call}
 use Rattle.roster.specs.declared.runs.Call.TheVariants.{Append, Read}
 use Rattle.roster.specs.declared.fault.RosterFault.{RosterFault}
-use Rattle.roster.specs.declared.fault.RosterFault.TheVariants.{Shut, NoEntry}
 use Rattle.roster.specs.Answers.{append_answer, appended_to, entry_answer, read_answer}
 use Rattle.roster.specs.Model.{RosterModel, Bounded, readable, appendable}
 use Rattle.roster.specs.Runs.{after_call, after_calls, Grown, EntriesStay}
-use Rattle.roster.proofs.Reading.{read_at}
 
 -- what an append that was not refused found: an open roster, the next place, and room
 pub append_open : {E : Type 0} (m : RosterModel E) (p : ℕ) → append_answer m p ≡ Ok tt → appendable m ≡ true
 append_open m p h = grind (arith, nat_tests)
-
-pub append-place : {E : Type 0} (m : RosterModel E) (p : ℕ) → append_answer m p ≡ Ok tt → p ≡ length m.entries + 1
-append-place m p h = grind (arith, nat_tests)
-
-pub append_room : {E : Type 0} (m : RosterModel E) (p : ℕ) → append_answer m p ≡ Ok tt → length m.entries < m.capacity
-append_room m p h = grind (arith, nat_tests)
 
 module _ {E : Type 0} where
   same_grown : (m : RosterModel E) → Bounded m → Grown m m
@@ -27,7 +19,7 @@ module _ {E : Type 0} where
 
   append-grown : (m : RosterModel E) (p : ℕ) (e : E) (r : Result Unit RosterFault) → append_answer m p ≡ r → Bounded m → Grown m (appended_to r m e)
   append-grown m p e (Ok _) q b =
-      let room : length m.entries < m.capacity = append_room m p q in
+      let room : length m.entries < m.capacity = grind (arith, nat_tests) in
       let more : length (m.entries ++ e ∷ []) ≡ length m.entries + 1 = length_push m.entries e in
       record { begins = (e ∷ [], refl); capacity = refl; state = refl; bounded = record { fits = omega arith; small = b.small } }
   append-grown m p e (Err _) q b = same_grown m b
@@ -53,17 +45,12 @@ module _ {E : Type 0} where
 
   -- an entry of a list is an entry of each list that begins with it
   entry_stays : (es more : List E) (i : ℕ) (e : E) → entry_answer es i ≡ Ok e → entry_answer (es ++ more) i ≡ Ok e
-  entry_stays [] more i e h = let z : ◌≡◌ {A = ℕ} 0 1 = cc in absurd (omega arith)
+  entry_stays [] more i e h = cc
   entry_stays (x ∷ es) more zero e h = h
   entry_stays (x ∷ es) more (suc i) e h = entry_stays es more i e h
 
-  answer-stays : (can none : Bool) (es more : List E) (i : ℕ) (e : E) → cond can (cond none (Err NoEntry) (entry_answer es i)) (Err Shut) ≡ Ok e → cond can (cond none (Err NoEntry) (entry_answer (es ++ more) i)) (Err Shut) ≡ Ok e
-  answer-stays true true es more i e h = h
-  answer-stays true false es more i e h = entry_stays es more i e h
-  answer-stays false none es more i e h = h
-
   append-stays : (m : RosterModel E) (x : E) (r : Result Unit RosterFault) (p : ℕ) (e : E) → read_answer m p ≡ Ok e → read_answer (appended_to r m x) p ≡ Ok e
-  append-stays m x (Ok _) p e h = answer-stays (readable m) _ m.entries (x ∷ []) (p - 1) e h
+  append-stays m x (Ok _) p e h = grind (arith, nat_tests, entry_stays)
   append-stays m x (Err _) p e h = h
 
   call_stays : (m : RosterModel E) (c : Call E) (p : ℕ) (e : E) → read_answer m p ≡ Ok e → read_answer (after_call c m) p ≡ Ok e
@@ -74,14 +61,19 @@ module _ {E : Type 0} where
   calls_stay m [] p e h = h
   calls_stay m (c ∷ cs) p e h = calls_stay (after_call c m) cs p e (call_stays m c p e h)
 
+  -- the entry after a list is read where the list ends
+  entry_push : (es : List E) (i : ℕ) (e : E) → i ≡ length es → entry_answer (es ++ e ∷ []) i ≡ Ok e
+  entry_push [] zero e h = refl
+  entry_push [] (suc i) e h = absurd (omega arith)
+  entry_push (x ∷ es) zero e h = absurd (omega arith)
+  entry_push (x ∷ es) (suc i) e h = entry_push es i e (omega arith)
+
   -- just after it was appended, an entry is read at its place
   pub read_back : (m : RosterModel E) (p : ℕ) (e : E) → readable m ≡ true → append_answer m p ≡ Ok tt → read_answer (after_call (Append p e) m) p ≡ Ok e
   read_back m p e o h =
-      let place : p ≡ length m.entries + 1 = append-place m p h in
-      let more : length (m.entries ++ e ∷ []) ≡ length m.entries + 1 = length_push m.entries e in
-      ap (λ r. read_answer (appended_to r m e) p) h
-      ∙ read_at (appended_to (Ok tt) m e) p e o (λ z. omega arith) (omega arith)
-      ∙ ap Ok (get_or_push m.entries e e (p - 1) (omega arith))
+      let place : p ≡ length m.entries + 1 = grind (arith, nat_tests) in
+      let more : entry_answer (m.entries ++ e ∷ []) (p - 1) ≡ Ok e = entry_push m.entries (p - 1) e (omega arith) in
+      grind (arith, nat_tests)
 
 pub entries_stay : (E : Type 0) → EntriesStay E
 entries_stay E =

@@ -8,7 +8,7 @@
 --     .grown          the list only grows, and never passes the capacity
 --     .stays          an entry that is read at a place is read there after any calls
 --     .back           an entry that was appended at a place is read there after any calls
-use Rattle.std.specs.Prelude.{◌≡◌, ℕ, true, List, [], ◌∷◌, ◌++◌, Ok}
+use Rattle.std.specs.Prelude.{◌≡◌, ℕ, true, List, ◌∷◌, ◌++◌, fold, Ok}
 use Rattle.roster.specs.declared.runs.Call.{Call}
 use Rattle.roster.specs.declared.runs.Call.TheVariants.{Append, Read}
 use Rattle.roster.specs.Answers.{append_answer, appended_to, read_answer}
@@ -19,8 +19,7 @@ after_call (Append p e) m = appended_to (append_answer m p) m e
 after_call (Read p) m = m
 
 abbrev pub after_calls : {E : Type 0} → List (Call E) → RosterModel E → RosterModel E
-after_calls [] m = m
-after_calls (c ∷ cs) m = after_calls cs (after_call c m)
+after_calls cs m = fold (λ n c. after_call c n) m cs
 
 abbrev pub BeginsWith : {E : Type 0} → List E → List E → Type 0
 BeginsWith {E} es fs = (more : List E) × (es ≡ fs ++ more)

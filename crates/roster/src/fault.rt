@@ -6,13 +6,13 @@ ghost use Rattle.roster.specs.Faults.{fault_number};
 #[derive(Clone, Copy, PartialEq, Eq, Debug)]
 pub enum RosterFault {
     // The roster is not open.
-    Shut,
+    Shut = 20,
     // The place is not one more than the number of entries.
-    NotNext,
+    NotNext = 21,
     // As many entries stand as the capacity allows.
-    Full,
+    Full = 22,
     // No entry stands at the place.
-    NoEntry,
+    NoEntry = 23,
 }
 
 impl RosterFault {
@@ -20,11 +20,6 @@ impl RosterFault {
     pub fn number(&self) -> u32
         ensures { result ≡ fault_number self.now }
     {
-        match *self {
-            RosterFault::Shut => 20,
-            RosterFault::NotNext => 21,
-            RosterFault::Full => 22,
-            RosterFault::NoEntry => 23,
-        }
+        *self as u32
     }
 }

@@ -14,17 +14,15 @@ pub const ENTRIES_MAX: usize = 1024;
 pub trait Roster<E> {
     ghost model: { Self → RosterModel E };
 
-    ghost bounded: { (s : Self) → Bounded (model s) };
-
     // Puts an entry at the end of the list, if the roster is open (20), `place` is one more than the length (21) and
     // the length is below the capacity (22), asked in this order. A refusal changes nothing.
     fn append(&mut self, place: usize, entry: E) -> Result<(), RosterFault>
         ensures value { result ≡ append_answer (model self.old) place }
-        ensures after { model self.new ≡ appended_to result (model self.old) entry }
-        ensures within { Bounded (model self.old) };
+        ensures after { model self.new ≡ appended_to result (model self.old) entry };
 
     // The entry at a place, if the roster is open (20) and `place` is from 1 to the length (23), asked in this order.
     fn read(&self, place: usize) -> Result<E, RosterFault>
-        ensures value { result ≡ read_answer (model self.now) place }
-        ensures within { Bounded (model self.now) };
+        ensures value { result ≡ read_answer (model self.now) place };
+
+    ghost bounded: { (s : Self) → Bounded (model s) };
 }

@@ -34,7 +34,7 @@ pub fn play<E: Copy, R: Roster<E>>(roster: &mut R, calls: &[Call<E>])
     ensures grown { Grown (R.model roster.old) (R.model roster.new) }
     ensures law { EntriesStay E }
 {
-    for i in 0..calls.len() {
-        make_call(roster, &calls[i]);
+    for call in calls {
+        make_call(roster, call);
     }
 }

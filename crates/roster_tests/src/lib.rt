@@ -10,16 +10,10 @@ mod tests {
     use roster::{Entry, PlainRoster, Roster, RosterFault};
     use std::test::Fail;
 
-    // Appends the numbers from 1 on at their places, and says how many were taken of 1,030.
+    // How many of the numbers from 1 to 1,030 a roster in the table takes, each at its own place.
     fn taken(table: &mut [usize]) -> usize {
         let mut roster = PlainRoster::new(table);
-        let mut count = 0;
-        for i in 1..1031 {
-            if roster.append(i, i).is_ok() {
-                count = i;
-            }
-        }
-        count
+        (1..1031).filter(|&i| roster.append(i, i).is_ok()).count()
     }
 
     #[test]

@@ -7,4 +7,4 @@ use Rattle.memory.proofs.links.fetch.Goals as goal
 pub returns : goal.returns
 returns g c =
     let e = c.in_ok-item.ensures in
-    record { value = ap raised e.value; within = read_within (g.R.Roster.model c.args.roster.now) c.args.place c.in_ok-item.item e.value e.within }
+    record { value = ap raised e.value; within = read_within (g.R.Roster.model c.args.roster.now) c.args.place c.in_ok-item.item e.value (g.met.R.Roster.bounded c.args.roster.now) }

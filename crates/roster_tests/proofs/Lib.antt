@@ -1,2 +1,0 @@
--- Why the trials' contracts hold.
-pub mod Backs

@@ -12,7 +12,7 @@ use text::Lines;
 const INPUT_MOST: u64 = 65_536;
 
 // Answers the lines after the first, with a table of so many places.
-fn answer_lines(rt: &HostRuntime, lines: &mut Lines, places: usize) -> io::Result<()> {
+fn answer_lines(rt: &HostRuntime, lines: Lines, places: usize) -> io::Result<()> {
     let heap = rt.alloc();
     let free = Pair {
         key: Channel { number: 0 },
@@ -21,9 +21,7 @@ fn answer_lines(rt: &HostRuntime, lines: &mut Lines, places: usize) -> io::Resul
     let mut pairs = vec![in heap; free; places]?;
     let mut table = KeyTable::new(pairs.as_mut_slice());
     let mut sheet = KeySheet::new();
-    let mut number = 1u32;
-    while let Some(line) = lines.next_line() {
-        number = number.saturating_add(1);
+    for (number, line) in (2u32..).zip(lines) {
         let answer = apply_text(&mut sheet, &mut table, line);
         rt.println(answer.text(heap, number)?)?;
     }
@@ -34,13 +32,13 @@ fn main(rt: HostRuntime) -> io::Result<()> {
     let mut bytes = Vec::new(rt.alloc());
     let _ = rt.stdin().take(INPUT_MOST).read_to_end(&mut bytes)?;
     let mut lines = Lines::new(bytes.as_slice());
-    let Some(first) = lines.next_line() else {
+    let Some(first) = lines.next() else {
         return Ok(());
     };
     match read_places(first) {
         Ok(places) => {
             println!(rt; "1 table {places}")?;
-            answer_lines(&rt, &mut lines, places)
+            answer_lines(&rt, lines, places)
         }
         Err(bad) => {
             let place = bad.place;

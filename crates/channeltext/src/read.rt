@@ -1,10 +1,10 @@
 // Reading a request to a key sheet, and the size of its table, from text.
 ghost use Rattle.std.specs.Prelude.{◌≡◌};
 ghost use Rattle.channeltext.specs.Requests.{put_in, erase_in, find_in, request_in, request_of, size_in, places_in, places_of};
-ghost use Rattle.text.specs.Views.{unread};
+ghost use Rattle.text.specs.Reading.{Takes};
 
 use keylines::{Channel, ChannelLine};
-use text::{BadField, Fields, check_length, number32_of};
+use text::{BadField, Fields, number32_of, parse_line};
 
 // The most places of a table.
 const PLACES_MOST: u32 = 1024;
@@ -18,18 +18,15 @@ pub enum Request {
 }
 
 fn take_put(fields: &mut Fields) -> Result<Request, BadField>
-    ensures value { result ≡ (put_in (unread fields.old)).answer }
-    ensures after { unread fields.new ≡ (put_in (unread fields.old)).left }
+    ensures { Takes put_in fields.old result fields.new }
 {
     let number = fields.number32()?;
-    let first = fields.number()?;
-    let second = fields.number()?;
-    Ok(Request::Line(ChannelLine::Put(Channel { number }, [first, second])))
+    let words = [fields.number()?, fields.number()?];
+    Ok(Request::Line(ChannelLine::Put(Channel { number }, words)))
 }
 
 fn take_erase(fields: &mut Fields) -> Result<Request, BadField>
-    ensures value { result ≡ (erase_in (unread fields.old)).answer }
-    ensures after { unread fields.new ≡ (erase_in (unread fields.old)).left }
+    ensures { Takes erase_in fields.old result fields.new }
 {
     let number = fields.number32()?;
     Ok(Request::Line(ChannelLine::Erase(Channel { number })))
@@ -39,27 +36,24 @@ fn take_erase(fields: &mut Fields) -> Result<Request, BadField>
 fn find_in(word: &[u8], place: usize) -> Result<Request, BadField>
     ensures { result ≡ find_in place word.now }
 {
-    if word.len() < 1 || word[0] != b'?' {
-        return Err(BadField { place });
-    }
-    match number32_of(&word[1..]) {
-        Some(number) => Ok(Request::Find(Channel { number })),
-        None => Err(BadField { place }),
+    match word {
+        [b'?', digits @ ..] => number32_of(digits)
+            .map(|number| Request::Find(Channel { number }))
+            .ok_or(BadField { place }),
+        _ => Err(BadField { place }),
     }
 }
 
 // Takes the fields of one request, `p KEY WORD WORD`, `e KEY`, `?KEY` or `!`.
 fn take_request(fields: &mut Fields) -> Result<Request, BadField>
-    ensures value { result ≡ (request_in (unread fields.old)).answer }
-    ensures after { unread fields.new ≡ (request_in (unread fields.old)).left }
+    ensures { Takes request_in fields.old result fields.new }
 {
     let place = fields.place();
-    let word = fields.field()?;
-    match word {
+    match fields.field()? {
         [b'p'] => take_put(fields),
         [b'e'] => take_erase(fields),
         [b'!'] => Ok(Request::Largest),
-        _ => find_in(word, place),
+        word => find_in(word, place),
     }
 }
 
@@ -67,31 +61,23 @@ fn take_request(fields: &mut Fields) -> Result<Request, BadField>
 pub fn read_request(line: &[u8]) -> Result<Request, BadField>
     ensures { result ≡ request_of line.now }
 {
-    check_length(line)?;
-    let mut fields = Fields::new(line);
-    let read = take_request(&mut fields)?;
-    fields.end()?;
-    Ok(read)
+    parse_line(line, take_request)
 }
 
 // The number of places, where a table can use so many.
 fn take_size(fields: &mut Fields) -> Result<usize, BadField>
-    ensures value { result ≡ (size_in (unread fields.old)).answer }
-    ensures after { unread fields.new ≡ (size_in (unread fields.old)).left }
+    ensures { Takes size_in fields.old result fields.new }
 {
     let place = fields.place();
-    let places = fields.number32()?;
-    if places <= PLACES_MOST {
-        Ok(places as usize)
-    } else {
-        Err(BadField { place })
+    match fields.number32()? {
+        places @ ..=PLACES_MOST => Ok(places as usize),
+        _ => Err(BadField { place }),
     }
 }
 
 // Takes the fields of a table's size, `t PLACES`.
 fn take_places(fields: &mut Fields) -> Result<usize, BadField>
-    ensures value { result ≡ (places_in (unread fields.old)).answer }
-    ensures after { unread fields.new ≡ (places_in (unread fields.old)).left }
+    ensures { Takes places_in fields.old result fields.new }
 {
     let place = fields.place();
     match fields.letter()? {
@@ -104,9 +90,5 @@ fn take_places(fields: &mut Fields) -> Result<usize, BadField>
 pub fn read_places(line: &[u8]) -> Result<usize, BadField>
     ensures { result ≡ places_of line.now }
 {
-    check_length(line)?;
-    let mut fields = Fields::new(line);
-    let places = take_places(&mut fields)?;
-    fields.end()?;
-    Ok(places)
+    parse_line(line, take_places)
 }

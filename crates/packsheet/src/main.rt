@@ -14,11 +14,9 @@ fn main(rt: HostRuntime) -> io::Result<()> {
     let heap = rt.alloc();
     let mut bytes = Vec::new(heap);
     let _ = rt.stdin().take(INPUT_MOST).read_to_end(&mut bytes)?;
-    let mut lines = Lines::new(bytes.as_slice());
+    let lines = Lines::new(bytes.as_slice());
     let mut sheet = PackSheet::new();
-    let mut number = 0u32;
-    while let Some(line) = lines.next_line() {
-        number = number.saturating_add(1);
+    for (number, line) in (1u32..).zip(lines) {
         let answer = apply_text(&mut sheet, line);
         rt.println(answer.text(heap, number)?)?;
     }

@@ -1,22 +1,20 @@
 // Reading a pack line from text.
 ghost use Rattle.std.specs.Prelude.{◌≡◌};
 ghost use Rattle.packtext.specs.Written.{pack_line_in, pack_line_of, begin_in, drain_in, idle_in};
-ghost use Rattle.text.specs.Views.{unread};
+ghost use Rattle.text.specs.Reading.{Takes};
 
 use pack::PackLine;
-use text::{BadField, Fields, check_length};
+use text::{BadField, Fields, parse_line};
 
 fn take_begin(fields: &mut Fields) -> Result<PackLine, BadField>
-    ensures value { result ≡ (begin_in (unread fields.old)).answer }
-    ensures after { unread fields.new ≡ (begin_in (unread fields.old)).left }
+    ensures { Takes begin_in fields.old result fields.new }
 {
     let charge = fields.number()?;
     Ok(PackLine::Begin(charge as f64))
 }
 
 fn take_drain(fields: &mut Fields) -> Result<PackLine, BadField>
-    ensures value { result ≡ (drain_in (unread fields.old)).answer }
-    ensures after { unread fields.new ≡ (drain_in (unread fields.old)).left }
+    ensures { Takes drain_in fields.old result fields.new }
 {
     let current = fields.number()?;
     let seconds = fields.number32()?;
@@ -24,8 +22,7 @@ fn take_drain(fields: &mut Fields) -> Result<PackLine, BadField>
 }
 
 fn take_idle(fields: &mut Fields) -> Result<PackLine, BadField>
-    ensures value { result ≡ (idle_in (unread fields.old)).answer }
-    ensures after { unread fields.new ≡ (idle_in (unread fields.old)).left }
+    ensures { Takes idle_in fields.old result fields.new }
 {
     let seconds = fields.number32()?;
     Ok(PackLine::Idle(seconds))
@@ -33,8 +30,7 @@ fn take_idle(fields: &mut Fields) -> Result<PackLine, BadField>
 
 // Takes the fields of one pack line, `b CHARGE`, `d CURRENT SECONDS` or `i SECONDS`; fields may follow.
 pub fn take_pack_line(fields: &mut Fields) -> Result<PackLine, BadField>
-    ensures value { result ≡ (pack_line_in (unread fields.old)).answer }
-    ensures after { unread fields.new ≡ (pack_line_in (unread fields.old)).left }
+    ensures { Takes pack_line_in fields.old result fields.new }
 {
     let place = fields.place();
     match fields.letter()? {
@@ -49,9 +45,5 @@ pub fn take_pack_line(fields: &mut Fields) -> Result<PackLine, BadField>
 pub fn pack_line(line: &[u8]) -> Result<PackLine, BadField>
     ensures { result ≡ pack_line_of line.now }
 {
-    check_length(line)?;
-    let mut fields = Fields::new(line);
-    let read = take_pack_line(&mut fields)?;
-    fields.end()?;
-    Ok(read)
+    parse_line(line, take_pack_line)
 }

@@ -23,7 +23,7 @@ const ENTRIES: usize = 32;
 // Plays the lines after the first on a group of so many workers, and prints the answers.
 fn play_lines<R: Roster<Entry<StoredPackLine>>>(
     rt: &HostRuntime,
-    lines: &mut Lines,
+    lines: Lines,
     workers: usize,
     roster: &mut R,
 ) -> io::Result<()> {
@@ -46,9 +46,7 @@ fn play_lines<R: Roster<Entry<StoredPackLine>>>(
         learned.as_mut_slice(),
         messages.as_mut_slice(),
     );
-    let mut number = 1u32;
-    while let Some(line) = lines.next_line() {
-        number = number.saturating_add(1);
+    for (number, line) in (2u32..).zip(lines) {
         let reply = run_line(&mut group, roster, line);
         rt.println(reply.text(heap, number)?)?;
     }
@@ -60,7 +58,7 @@ fn main(rt: HostRuntime) -> io::Result<()> {
     let mut bytes = Vec::new(heap);
     let _ = rt.stdin().take(INPUT_MOST).read_to_end(&mut bytes)?;
     let mut lines = Lines::new(bytes.as_slice());
-    let Some(first) = lines.next_line() else {
+    let Some(first) = lines.next() else {
         return Ok(());
     };
     match read_setup(first) {
@@ -68,7 +66,7 @@ fn main(rt: HostRuntime) -> io::Result<()> {
             println!(rt; "1 ok")?;
             let mut entries = vec![in heap; Entry::Lead(0); ENTRIES]?;
             let mut roster = PlainRoster::new(entries.as_mut_slice());
-            play_lines(&rt, &mut lines, workers, &mut roster)
+            play_lines(&rt, lines, workers, &mut roster)
         }
         Err(bad) => {
             let place = bad.place;

@@ -8,7 +8,6 @@
 -- length_check bs   the refusal of a line of more than line_most bytes
 -- contents r        what a field that was read holds
 -- first_field u     the next field, or its refusal where none is left
--- parsed o n        what was read of a field, or the refusal of the field at the place n
 -- read_by p u       the next field read by p
 -- past_field u      what is left after the next field, good or bad; where none is left, nothing moves
 -- Taken A           an answer, and what is left to read after it
@@ -18,15 +17,20 @@
 -- unless r s        the answer s, unless the check r refuses
 -- ended t           what t answers, unless a field is left after it
 -- whole_line p bs   what p takes from the line bs, which is not too long and has no field after it
+-- Takes p u r u'    the answer r, and what is left after it, u', are those of p from u
+-- Computes g f p    the function f, called at any field, answers what p does
+-- Reads g f p       the function f, called at a line's fields, takes what p does
 -- letter_in f       the field as its one byte
 -- number32_in f     the field as a number that fits 32 bits
 -- end_of u          the refusal of a field that is too many
 -- Parted bs fs      fs are the fields of the line bs: with single spaces between them they are the line again, and none has a space
-use Rattle.std.specs.Prelude.{◌≡◌, ℕ, ◌+◌, cond, List, [], ◌∷◌, length, drop, Some, None, Ok, Err, Option, Result, nat_le}
-use Rattle.std.specs.Borrow.{Bor}
-use Rattle.std.specs.List.{AllByRecursion}
+use Rattle.std.specs.Prelude.{◌≡◌, ℕ, ◌+◌, cond, List, [], ◌∷◌, length, drop, Some, None, Ok, Err, Option, Result, ◌==◌, nat_le}
+use Rattle.std.specs.Borrow.{Bor, MutBor}
+use Rattle.std.specs.Fn.{Once, FnOnceReturnsAt, FnOnceReturnsAtMut}
+use Rattle.std.specs.List.{AllByRecursion, join_with_byte, slice_split}
+use Rattle.std.specs.Option.{ok_or}
 use Rattle.text.specs.declared.fields.BadField.{BadField}
-use Rattle.text.specs.Texts.{parted_at, joined_by, Lacks, number_of}
+use Rattle.text.specs.Texts.{Lacks, number_of}
 
 abbrev pub line_most : ℕ
 line_most = 80
@@ -39,7 +43,7 @@ pub record Unread : Type 0 where
   pub fields : List (List ℕ)
 
 abbrev pub unread_at : List ℕ → ℕ → Unread
-unread_at bs i = record { place = i + 1; fields = cond (nat_le i (length bs)) (parted_at space (drop i bs)) [] }
+unread_at bs i = record { place = i + 1; fields = cond (nat_le i (length bs)) (slice_split (λ b. b == space) (drop i bs)) [] }
 
 abbrev pub bad_at : ℕ → BadField
 bad_at n = record { place = n }
@@ -54,12 +58,8 @@ contents (Err e) = Err e
 abbrev pub first_field : Unread → Result (List ℕ) BadField
 first_field u = elim u.fields [ [] ↦ Err (bad_at u.place) | f ∷ fs ↦ Ok f ]
 
-abbrev pub parsed : {A : Type 0} → Option A → ℕ → Result A BadField
-parsed None n = Err (bad_at n)
-parsed (Some v) n = Ok v
-
 abbrev pub read_by : {A : Type 0} → (List ℕ → Option A) → Unread → Result A BadField
-read_by p u = elim u.fields [ [] ↦ Err (bad_at u.place) | f ∷ fs ↦ parsed (p f) u.place ]
+read_by p u = elim u.fields [ [] ↦ Err (bad_at u.place) | f ∷ fs ↦ ok_or (p f) (bad_at u.place) ]
 
 abbrev pub past_field : Unread → Unread
 past_field u = elim u.fields [ [] ↦ u | f ∷ fs ↦ record { place = u.place + length f + 1; fields = fs } ]
@@ -98,6 +98,16 @@ ended t = elim t.answer [ Err e ↦ Err e | Ok v ↦ unless (end_of t.left) (Ok 
 abbrev pub whole_line : {A : Type 0} → (Unread → Taken A) → List ℕ → Result A BadField
 whole_line p bs = unless (length_check bs) (ended (p (unread_at bs 0)))
 
+pub record Takes {A : Type 0} (p : Unread → Taken A) (u : Unread) (r : Result A BadField) (u' : Unread) : Type 0 where
+  pub answer : r ≡ (p u).answer
+  pub left : u' ≡ (p u).left
+
+abbrev pub Computes : {F A : Type 0} → Once F (Bor (List ℕ) × Unit {0}) (Option A) → F → (List ℕ → Option A) → Type 0
+Computes {A = A} g f p = (bs : List ℕ) (o : Option A) → FnOnceReturnsAt g f bs o → o ≡ p bs
+
+abbrev pub Reads : {F A : Type 0} → Once F (MutBor Unread × Unit {0}) (Result A BadField × (MutBor Unread × Unit {0})) → F → (Unread → Taken A) → Type 0
+Reads {A = A} g f p = (u u' : Unread) (r : Result A BadField) → FnOnceReturnsAtMut g f u r u' → Takes p u r u'
+
 pub record Parted (bs : List ℕ) (fs : List (List ℕ)) : Type 0 where
-  pub joined : joined_by space fs ≡ bs
+  pub joined : join_with_byte space fs ≡ bs
   pub spaceless : AllByRecursion (Lacks space) fs

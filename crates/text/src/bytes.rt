@@ -1,20 +1,22 @@
-// Runs of bytes: where the first of a kind stands, and the number that digits write.
-ghost use Rattle.std.specs.Prelude.{◌≡◌, ℕ, ◌+◌, ◌^◌, ◌<◌, ◌≤◌, length, drop, IfSome};
-ghost use Rattle.text.specs.Reading.{number32_in};
-ghost use Rattle.text.specs.Texts.{run_to, decimal, number_of};
+// Runs of bytes: how far one goes, and the number that digits write.
+ghost use Rattle.std.specs.Prelude.{◌≡◌, ◌^◌, ◌<◌, ◌≤◌, length, IfSome, position, ◌==◌};
+ghost use Rattle.std.specs.List.{position_or_len};
+ghost use Rattle.text.specs.Reading.{letter_in, number32_in};
+ghost use Rattle.text.specs.Texts.{decimal, number_of};
 
-// The index of the first such byte at or after `from`, or the length where there is none.
-pub(crate) fn index_of(text: &[u8], from: usize, stop: u8) -> usize
-    requires { from ≤ length text.now }
-    ensures value { result ≡ from + run_to stop (drop from text.now) }
-    ensures bound { result ≤ length text.now }
+// The index of the first such byte, and none where it is missing.
+fn index_of(bytes: &[u8], byte: u8) -> Option<usize>
+    ensures { result ≡ position (λ b. b == byte) bytes.now }
 {
-    for i in from..text.len() {
-        if text[i] == stop {
-            return i;
-        }
-    }
-    text.len()
+    bytes.iter().position(|b| *b == byte)
+}
+
+// How many bytes stand before the first such byte; all of them where it is missing.
+pub(crate) fn run_length(bytes: &[u8], stop: u8) -> usize
+    ensures value { result ≡ position_or_len (λ b. b == stop) bytes.now }
+    ensures bound { result ≤ length bytes.now }
+{
+    index_of(bytes, stop).unwrap_or(bytes.len())
 }
 
 // The number that decimal digits write, and none where a byte is no digit.
@@ -25,10 +27,10 @@ fn decimal_of(digits: &[u8]) -> Option<u64>
 {
     let mut n = 0u64;
     for b in digits {
-        if *b < b'0' || *b > b'9' {
+        if !b.is_ascii_digit() {
             return None;
         }
-        n = n * 10 + (*b - b'0') as u64;
+        n = n * 10 + u64::from(*b - b'0');
     }
     Some(n)
 }
@@ -38,10 +40,9 @@ pub(crate) fn number_of(field: &[u8]) -> Option<u64>
     ensures value { result ≡ number_of field.now }
     ensures bound { IfSome result (λ n. n < 10 ^ 10) }
 {
-    if field.len() >= 1 && field.len() <= 10 {
-        decimal_of(field)
-    } else {
-        None
+    match field.len() {
+        1..=10 => decimal_of(field),
+        _ => None,
     }
 }
 
@@ -49,8 +50,15 @@ pub(crate) fn number_of(field: &[u8]) -> Option<u64>
 pub fn number32_of(field: &[u8]) -> Option<u32>
     ensures { result ≡ number32_in field.now }
 {
-    match number_of(field) {
-        Some(n) if n <= 4_294_967_295 => Some(n as u32),
+    u32::try_from(number_of(field)?).ok()
+}
+
+// The one byte of a field, read as a character, and none for any other field.
+pub(crate) fn letter_of(field: &[u8]) -> Option<char>
+    ensures { result ≡ letter_in field.now }
+{
+    match field {
+        [byte] => Some(char::from(*byte)),
         _ => None,
     }
 }

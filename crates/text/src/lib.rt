@@ -6,5 +6,5 @@ mod fields;
 mod lines;
 
 pub use bytes::number32_of;
-pub use fields::{BadField, Fields, check_length};
+pub use fields::{BadField, Fields, check_length, parse_line};
 pub use lines::Lines;

@@ -1,7 +1,9 @@
 -- Where the next field begins within the line, there is one.
-use Rattle.std.proofs.Common.{arith}
-use Rattle.text.proofs.Parts.{one_left}
+use Rattle.std.proofs.Common.{◌≡◌, Err, ap, ◌∙◌, subst}
+use Rattle.text.specs.Reading.{bad_at, end_of}
+use Rattle.text.proofs.Cutting.{one_left}
 use Rattle.text.proofs.fields.Fields.end.Goals as goal
 
 pub returns-then-self : goal.returns-then-self
-returns-then-self c = one_left c.args.self.now.line.now c.args.self.now.next (omega arith)
+returns-then-self c =
+    ap (λ n. Err (bad_at n)) c.place.ensures ∙ subst (λ u. Err (bad_at u.place) ≡ end_of u) c.self.view_is (one_left c.self.inside.line.now c.self.inside.next c.if-self.true)

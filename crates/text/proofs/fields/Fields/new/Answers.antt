@@ -1,7 +1,6 @@
 -- All the line's parts are left at its first byte.
-use Rattle.std.proofs.Common.{refl}
-use Rattle.text.proofs.Parts.{line_parted}
+use Rattle.text.proofs.Cutting.{line_parted}
 use Rattle.text.proofs.fields.Fields.new.Goals as goal
 
-pub returns : goal.returns
-returns c = record { value = refl; parts = line_parted c.args.line.now }
+pub returns-clause-parts : goal.returns-clause-parts
+returns-clause-parts c = line_parted c.args.line.now

@@ -1,7 +1,0 @@
-use Rattle.std.proofs.Common.{length}
-use Rattle.text.specs.Views.{lines_left}
-use Rattle.script.proofs.play_lines.Given as goal
-
--- the lines that are still to come
-abbrev pub decreases-loop-line : goal.decreases-loop-line
-decreases-loop-line g l = length (lines_left l.lines)

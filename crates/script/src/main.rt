@@ -50,7 +50,7 @@ fn play_lines<R: Roster<Entry<StoredPackLine>>>(
     while let Some(line) = lines.next_line() {
         number = number.saturating_add(1);
         let reply = run_line(&mut group, roster, line);
-        rt.println(reply.text(heap, number)?)?;
+        rt.println(reply.numbered(number))?;
     }
     Ok(())
 }
@@ -70,9 +70,6 @@ fn main(rt: HostRuntime) -> io::Result<()> {
             let mut roster = PlainRoster::new(entries.as_mut_slice());
             play_lines(&rt, &mut lines, workers, &mut roster)
         }
-        Err(bad) => {
-            let place = bad.place;
-            println!(rt; "1 bad {place}")
-        }
+        Err(bad) => println!(rt; "1 {bad}"),
     }
 }

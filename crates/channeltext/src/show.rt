@@ -1,7 +1,7 @@
 // Answering requests to a key sheet, and what is shown of them.
 ghost use Rattle.std.specs.Prelude.{◌≡◌, Some};
 ghost use Rattle.channeltext.specs.Requests.{good_lines};
-ghost use Rattle.channeltext.specs.Shown.{same_channel, line_answer, found_answer, largest_answer, answer_to, after_request, answer_of, sheet_after, summary_of, item_text, answer_text, summary_text};
+ghost use Rattle.channeltext.specs.Shown.{same_channel, line_answer, found_answer, largest_answer, answer_to, after_request, answer_of, sheet_after, summary_of, item_text, answer_text, summary_text, sheet_text};
 ghost use Rattle.keylines.specs.Laws.{LawsGoOn};
 ghost use Rattle.keylines.specs.Sheets.{applied};
 ghost use Rattle.keys.specs.Views.{SameSlice, table_capacity, table_pairs, sheet_now};
@@ -115,7 +115,8 @@ impl ChannelAnswer {
 impl Summary {
     // What is shown of this sheet and its table.
     pub fn new(sheet: &KeySheet, table: &KeyTable<Channel>) -> Summary
-        ensures { result ≡ summary_of (sheet_now table.now sheet.now) }
+        ensures value { result ≡ summary_of (sheet_now table.now sheet.now) }
+        ensures text { ⟦<Summary as fmt::Display>⟧.output result ≡ Some (sheet_text (sheet_now table.now sheet.now)) }
     {
         Summary {
             used: table.len(),

@@ -1,6 +1,6 @@
 // Working on a sheet by lines of text, and what is shown of it.
 ghost use Rattle.std.specs.Prelude.{◌≡◌, Some};
-ghost use Rattle.packtext.specs.Shown.{figures_of, sheet_after, answer_of, done_with, BookGrows, summary_of, figures_text, item_text, answer_text, summary_text};
+ghost use Rattle.packtext.specs.Shown.{figures_of, sheet_after, answer_of, done_with, BookGrows, summary_of, figures_text, item_text, answer_text, summary_text, sheet_text};
 ghost use Rattle.pack.specs.Sheets.{applied};
 
 use crate::read::pack_line;
@@ -52,7 +52,10 @@ impl From<&PackSheet> for Figures {
 impl From<&PackSheet> for Summary {
     ghost from_gives = { λ sheet summary. summary ≡ summary_of sheet.now };
 
-    fn from(sheet: &PackSheet) -> Summary {
+    fn from(sheet: &PackSheet) -> Summary
+        ensures value { result ≡ summary_of sheet.now }
+        ensures text { ⟦<Summary as fmt::Display>⟧.output result ≡ Some (sheet_text sheet.now) }
+    {
         Summary {
             figures: Figures::from(sheet),
             fit: sheet.fit(),

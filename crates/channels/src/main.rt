@@ -1,7 +1,7 @@
 // Works out a key sheet from lines of text on standard input, and prints what each line did.
 #![tactic(auto)]
 
-use channeltext::{apply_text, read_places, sheet_text};
+use channeltext::{Summary, apply_text, read_places};
 use keylines::{Channel, Pair};
 use keys::{KeySheet, KeyTable};
 use std::io;
@@ -13,19 +13,18 @@ const INPUT_MOST: u64 = 65_536;
 
 // Answers the lines after the first, with a table of so many places.
 fn answer_lines(rt: &HostRuntime, lines: Lines, places: usize) -> io::Result<()> {
-    let heap = rt.alloc();
     let free = Pair {
         key: Channel { number: 0 },
         words: [0, 0],
     };
-    let mut pairs = vec![in heap; free; places]?;
+    let mut pairs = vec![in rt.alloc(); free; places]?;
     let mut table = KeyTable::new(pairs.as_mut_slice());
     let mut sheet = KeySheet::new();
     for (number, line) in (2u32..).zip(lines) {
         let answer = apply_text(&mut sheet, &mut table, line);
-        rt.println(answer.text(heap, number)?)?;
+        rt.println(answer.numbered(number))?;
     }
-    rt.println(sheet_text(heap, &sheet, &table)?)
+    rt.println(Summary::new(&sheet, &table))
 }
 
 fn main(rt: HostRuntime) -> io::Result<()> {
@@ -40,9 +39,6 @@ fn main(rt: HostRuntime) -> io::Result<()> {
             println!(rt; "1 table {places}")?;
             answer_lines(&rt, lines, places)
         }
-        Err(bad) => {
-            let place = bad.place;
-            println!(rt; "1 bad {place}")
-        }
+        Err(bad) => println!(rt; "1 {bad}"),
     }
 }

@@ -6,17 +6,21 @@
 -- after_request c s q           the sheet s after the request q
 -- answer_of c s bs              what is answered to the line bs
 -- sheet_after c s bs            the sheet s after the line bs: only a channel line changes it
--- answer_text, sheet_text       the bytes that are written
+-- summary_of s                  what is shown of the whole sheet s
+-- item_text a                   the bytes that are written of the answer a, without a number
+-- answer_text, summary_text, sheet_text: the bytes that are written
 use Rattle.std.specs.Prelude.{ℕ, Bool, cond, List, ◌++◌, length, Some, None, Ok, Err, codes, decimal, ◌==◌, nat_lt, slice_index}
 use Rattle.keylines.specs.Pairs.{words_of, largest_of}
 use Rattle.keylines.specs.Sheets.{Sheet, fits_line, applied}
 use Rattle.keylines.specs.declared.channels.Channel.{Channel}
 use Rattle.keylines.specs.declared.lines.ChannelLine.{ChannelLine}
 use Rattle.keylines.specs.declared.lines.Pair.{Pair}
+use Rattle.text.specs.Shown.{bad_text}
 use Rattle.channeltext.specs.declared.read.Request.{Request}
 use Rattle.channeltext.specs.declared.read.Request.TheVariants as Asked
 use Rattle.channeltext.specs.declared.show.ChannelAnswer.{ChannelAnswer}
 use Rattle.channeltext.specs.declared.show.ChannelAnswer.TheVariants.{Fit, Unfit, Words, Largest, Nothing, Bad}
+use Rattle.channeltext.specs.declared.show.Summary.{Summary}
 use Rattle.channeltext.specs.Requests.{request_of}
 
 abbrev pub same_channel : Channel → Channel → Bool
@@ -52,15 +56,25 @@ answer_of c s bs = elim (request_of bs) [ Err e ↦ Bad e | Ok q ↦ answer_to c
 abbrev pub sheet_after : ℕ → Sheet Channel → List ℕ → Sheet Channel
 sheet_after c s bs = elim (request_of bs) [ Err e ↦ s | Ok q ↦ after_request c s q ]
 
--- `NUMBER fit USED`, `NUMBER unfit USED`, `NUMBER words WORD WORD`, `NUMBER largest KEY`, `NUMBER none` or `NUMBER bad PLACE`
+-- `fit USED`, `unfit USED`, `words WORD WORD`, `largest KEY`, `none` or `bad PLACE`
+abbrev pub item_text : ChannelAnswer → List ℕ
+item_text (Fit u) = codes "fit " ++ decimal u
+item_text (Unfit u) = codes "unfit " ++ decimal u
+item_text (Words w) = codes "words " ++ (decimal (slice_index w 0) ++ (codes " " ++ decimal (slice_index w 1)))
+item_text (Largest k) = codes "largest " ++ decimal k.number
+item_text Nothing = codes "none"
+item_text (Bad e) = bad_text e
+
+-- the number of the line, and the answer to it
 abbrev pub answer_text : ℕ → ChannelAnswer → List ℕ
-answer_text n (Fit u) = decimal n ++ (codes " fit " ++ decimal u)
-answer_text n (Unfit u) = decimal n ++ (codes " unfit " ++ decimal u)
-answer_text n (Words w) = decimal n ++ (codes " words " ++ (decimal (slice_index w 0) ++ (codes " " ++ decimal (slice_index w 1))))
-answer_text n (Largest k) = decimal n ++ (codes " largest " ++ decimal k.number)
-answer_text n Nothing = decimal n ++ codes " none"
-answer_text n (Bad e) = decimal n ++ (codes " bad " ++ decimal e.place)
+answer_text n a = decimal n ++ (codes " " ++ item_text a)
+
+abbrev pub summary_of : Sheet Channel → Summary
+summary_of s = record { used = length s.pairs; fit = s.fit; unfit = s.unfit }
 
 -- `sheet USED fit COUNT unfit COUNT`
+abbrev pub summary_text : Summary → List ℕ
+summary_text s = codes "sheet " ++ (decimal s.used ++ (codes " fit " ++ (decimal s.fit ++ (codes " unfit " ++ decimal s.unfit))))
+
 abbrev pub sheet_text : Sheet Channel → List ℕ
-sheet_text s = codes "sheet " ++ (decimal (length s.pairs) ++ (codes " fit " ++ (decimal s.fit ++ (codes " unfit " ++ decimal s.unfit))))
+sheet_text s = summary_text (summary_of s)

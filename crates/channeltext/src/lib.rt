@@ -5,4 +5,4 @@ mod read;
 mod show;
 
 pub use read::{Request, read_places, read_request};
-pub use show::{ChannelAnswer, apply_text, sheet_text};
+pub use show::{ChannelAnswer, Summary, apply_text};

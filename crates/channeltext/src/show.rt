@@ -1,7 +1,7 @@
 // Answering requests to a key sheet, and what is shown of them.
-ghost use Rattle.std.specs.Prelude.{◌≡◌, IfOk, string_bytes};
+ghost use Rattle.std.specs.Prelude.{◌≡◌, Some};
 ghost use Rattle.channeltext.specs.Requests.{good_lines};
-ghost use Rattle.channeltext.specs.Shown.{same_channel, line_answer, found_answer, largest_answer, answer_to, after_request, answer_of, sheet_after, answer_text, sheet_text};
+ghost use Rattle.channeltext.specs.Shown.{same_channel, line_answer, found_answer, largest_answer, answer_to, after_request, answer_of, sheet_after, summary_of, item_text, answer_text, summary_text, sheet_text};
 ghost use Rattle.keylines.specs.Laws.{LawsGoOn};
 ghost use Rattle.keylines.specs.Sheets.{applied};
 ghost use Rattle.keys.specs.Views.{SameSlice, table_capacity, table_pairs, sheet_now};
@@ -9,12 +9,13 @@ ghost use Rattle.keys.specs.Views.{SameSlice, table_capacity, table_pairs, sheet
 use crate::read::{Request, read_request};
 use keylines::{Channel, ChannelLine};
 use keys::{KeySheet, KeyTable};
-use std::alloc::{AllocError, Global};
-use text::BadField;
+use std::fmt;
+use text::{BadField, Numbered};
 
 // What was answered to a line of text: a channel line that was fit or unfit, with the number of pairs
 // after it; the words of a channel; the largest channel; nothing, where there is none; or the field that is bad.
-#[derive(Clone, Copy)]
+// It is printed as `fit USED`, `unfit USED`, `words WORD WORD`, `largest KEY`, `none` or `bad PLACE`.
+#[derive(Clone, Copy, PartialEq, Eq, Debug)]
 pub enum ChannelAnswer {
     Fit(usize),
     Unfit(usize),
@@ -22,6 +23,15 @@ pub enum ChannelAnswer {
     Largest(Channel),
     Nothing,
     Bad(BadField),
+}
+
+// What is shown of a whole sheet and its table: the number of pairs, and how many lines were fit and unfit. It is
+// printed as `sheet USED fit COUNT unfit COUNT`.
+#[derive(Clone, Copy, PartialEq, Eq, Debug)]
+pub struct Summary {
+    pub used: usize,
+    pub fit: u32,
+    pub unfit: u32,
 }
 
 // Applies a channel line, and says whether it was fit.
@@ -48,20 +58,18 @@ fn answer_line(
 fn answer_find(table: &KeyTable<Channel>, key: Channel) -> ChannelAnswer
     ensures { result ≡ found_answer (table_pairs table.now) key }
 {
-    match table.find(key) {
-        Some(words) => ChannelAnswer::Words(words),
-        None => ChannelAnswer::Nothing,
-    }
+    table
+        .find(key)
+        .map_or(ChannelAnswer::Nothing, ChannelAnswer::Words)
 }
 
 // The largest channel, or nothing.
 fn answer_largest(table: &KeyTable<Channel>) -> ChannelAnswer
     ensures { result ≡ largest_answer (table_pairs table.now) }
 {
-    match table.largest() {
-        Some(key) => ChannelAnswer::Largest(key),
-        None => ChannelAnswer::Nothing,
-    }
+    table
+        .largest()
+        .map_or(ChannelAnswer::Nothing, ChannelAnswer::Largest)
 }
 
 // Does what a request asks for, and says what was done.
@@ -96,40 +104,48 @@ pub fn apply_text(sheet: &mut KeySheet, table: &mut KeyTable<Channel>, line: &[u
 
 impl ChannelAnswer {
     // The line of output for the line of input with this number.
-    pub fn text(&self, heap: Global, number: u32) -> Result<String, AllocError>
-        ensures { IfOk result (λ s. string_bytes s ≡ answer_text number self.now) }
+    pub fn numbered(self, number: u32) -> Numbered<ChannelAnswer>
+        ensures value { result ≡ record { number = number; item = self } }
+        ensures text { ⟦<Numbered<ChannelAnswer> as fmt::Display>⟧.output result ≡ Some (answer_text number self) }
     {
-        match *self {
-            ChannelAnswer::Fit(used) => format!(in heap; "{number} fit {used}"),
-            ChannelAnswer::Unfit(used) => format!(in heap; "{number} unfit {used}"),
-            ChannelAnswer::Words(words) => {
-                let first = words[0];
-                let second = words[1];
-                format!(in heap; "{number} words {first} {second}")
-            }
-            ChannelAnswer::Largest(key) => {
-                let largest = key.number;
-                format!(in heap; "{number} largest {largest}")
-            }
-            ChannelAnswer::Nothing => format!(in heap; "{number} none"),
-            ChannelAnswer::Bad(bad) => {
-                let place = bad.place;
-                format!(in heap; "{number} bad {place}")
-            }
+        Numbered { number, item: self }
+    }
+}
+
+impl Summary {
+    // What is shown of this sheet and its table.
+    pub fn new(sheet: &KeySheet, table: &KeyTable<Channel>) -> Summary
+        ensures value { result ≡ summary_of (sheet_now table.now sheet.now) }
+        ensures text { ⟦<Summary as fmt::Display>⟧.output result ≡ Some (sheet_text (sheet_now table.now sheet.now)) }
+    {
+        Summary {
+            used: table.len(),
+            fit: sheet.fit(),
+            unfit: sheet.unfit(),
         }
     }
 }
 
-// The line of output for a whole sheet and its table.
-pub fn sheet_text(
-    heap: Global,
-    sheet: &KeySheet,
-    table: &KeyTable<Channel>,
-) -> Result<String, AllocError>
-    ensures { IfOk result (λ s. string_bytes s ≡ sheet_text (sheet_now table.now sheet.now)) }
-{
-    let used = table.len();
-    let fit = sheet.fit();
-    let unfit = sheet.unfit();
-    format!(in heap; "sheet {used} fit {fit} unfit {unfit}")
+impl fmt::Display for ChannelAnswer {
+    ghost output = { λ answer. Some (item_text answer) };
+
+    fn fmt<W: fmt::Write>(&self, f: &mut fmt::Formatter<W>) -> fmt::Result {
+        match self {
+            ChannelAnswer::Fit(used) => write!(f, "fit {used}"),
+            ChannelAnswer::Unfit(used) => write!(f, "unfit {used}"),
+            ChannelAnswer::Words([first, second]) => write!(f, "words {first} {second}"),
+            ChannelAnswer::Largest(key) => write!(f, "largest {}", key.number),
+            ChannelAnswer::Nothing => write!(f, "none"),
+            ChannelAnswer::Bad(bad) => write!(f, "{bad}"),
+        }
+    }
+}
+
+impl fmt::Display for Summary {
+    ghost output = { λ summary. Some (summary_text summary) };
+
+    fn fmt<W: fmt::Write>(&self, f: &mut fmt::Formatter<W>) -> fmt::Result {
+        let (used, fit, unfit) = (self.used, self.fit, self.unfit);
+        write!(f, "sheet {used} fit {fit} unfit {unfit}")
+    }
 }

@@ -27,14 +27,12 @@ fn tell<R: Roster<Entry<StoredPackLine>>>(
     roster: &mut R,
     story: &str,
 ) -> io::Result<()> {
-    let heap = rt.alloc();
     let mut number = 0u32;
     for line in story.lines() {
         if let Some((command, what)) = line.split_once('|') {
             number = number.saturating_add(1);
-            let reply = run_line(group, roster, command.as_bytes());
-            let shown = reply.text(heap, number)?;
-            println!(rt; "{shown}: {what} ({command})")?;
+            let reply = run_line(group, roster, command.as_bytes()).numbered(number);
+            println!(rt; "{reply}: {what} ({command})")?;
         }
     }
     Ok(())

@@ -2,7 +2,7 @@
 #![tactic(auto)]
 
 use pack::PackSheet;
-use packtext::{apply_text, sheet_text};
+use packtext::{Summary, apply_text};
 use std::io;
 use std::io::Read;
 use text::Lines;
@@ -11,14 +11,13 @@ use text::Lines;
 const INPUT_MOST: u64 = 65_536;
 
 fn main(rt: HostRuntime) -> io::Result<()> {
-    let heap = rt.alloc();
-    let mut bytes = Vec::new(heap);
+    let mut bytes = Vec::new(rt.alloc());
     let _ = rt.stdin().take(INPUT_MOST).read_to_end(&mut bytes)?;
     let lines = Lines::new(bytes.as_slice());
     let mut sheet = PackSheet::new();
     for (number, line) in (1u32..).zip(lines) {
         let answer = apply_text(&mut sheet, line);
-        rt.println(answer.text(heap, number)?)?;
+        rt.println(answer.numbered(number))?;
     }
-    rt.println(sheet_text(heap, &sheet)?)
+    rt.println(Summary::from(&sheet))
 }

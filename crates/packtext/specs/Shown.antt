@@ -5,16 +5,20 @@
 -- sheet_after s bs   the sheet s after the line bs: a bad line leaves it
 -- answer_of s bs     what is answered to the line bs
 -- BookGrows          where s is the sheet of lines xs, s' is the sheet of xs and then the pack line that bs writes, if it writes one
--- figures_text, answer_text, sheet_text: the bytes that are written
+-- summary_of s       what is shown of the whole sheet s
+-- item_text a        the bytes that are written of the answer a, without a number
+-- figures_text, answer_text, summary_text, sheet_text: the bytes that are written
 use Rattle.std.specs.Prelude.{◌≡◌, ℕ, cond, List, ◌++◌, Some, None, Ok, Err, codes, decimal, Option, Float}
 use Rattle.std.specs.Float.Ieee.{to_unsigned}
 use Rattle.pack.specs.Sheets.{fit_for, applied, sheet_of, remaining_of}
 use Rattle.pack.specs.declared.line.PackLine.{PackLine}
 use Rattle.pack.specs.declared.sheet.PackSheet.{PackSheet}
+use Rattle.text.specs.Shown.{bad_text}
 use Rattle.packtext.specs.Written.{pack_line_of, good_lines}
 use Rattle.packtext.specs.declared.show.Answer.{Answer}
 use Rattle.packtext.specs.declared.show.Answer.TheVariants.{Fit, Unfit, Bad}
 use Rattle.packtext.specs.declared.show.Figures.{Figures}
+use Rattle.packtext.specs.declared.show.Summary.{Summary}
 
 abbrev pub cut : Float → ℕ
 cut x = to_unsigned 64 x
@@ -46,12 +50,22 @@ time_text (Some t) = decimal t
 abbrev pub figures_text : Figures → List ℕ
 figures_text f = decimal f.charge ++ (codes " " ++ time_text f.remaining)
 
+-- `fit CHARGE TIME`, `unfit CHARGE TIME` or `bad PLACE`
+abbrev pub item_text : Answer → List ℕ
+item_text (Fit f) = codes "fit " ++ figures_text f
+item_text (Unfit f) = codes "unfit " ++ figures_text f
+item_text (Bad e) = bad_text e
+
 -- `NUMBER fit CHARGE TIME`, `NUMBER unfit CHARGE TIME` or `NUMBER bad PLACE`
 abbrev pub answer_text : ℕ → Answer → List ℕ
-answer_text n (Fit f) = decimal n ++ (codes " fit " ++ figures_text f)
-answer_text n (Unfit f) = decimal n ++ (codes " unfit " ++ figures_text f)
-answer_text n (Bad e) = decimal n ++ (codes " bad " ++ decimal e.place)
+answer_text n a = decimal n ++ (codes " " ++ item_text a)
+
+abbrev pub summary_of : PackSheet → Summary
+summary_of s = record { figures = figures_of s; fit = s.fit; unfit = s.unfit }
 
 -- `sheet CHARGE TIME fit COUNT unfit COUNT`
+abbrev pub summary_text : Summary → List ℕ
+summary_text s = codes "sheet " ++ (figures_text s.figures ++ (codes " fit " ++ (decimal s.fit ++ (codes " unfit " ++ decimal s.unfit))))
+
 abbrev pub sheet_text : PackSheet → List ℕ
-sheet_text s = codes "sheet " ++ (figures_text (figures_of s) ++ (codes " fit " ++ (decimal s.fit ++ (codes " unfit " ++ decimal s.unfit))))
+sheet_text s = summary_text (summary_of s)

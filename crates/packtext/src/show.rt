@@ -1,16 +1,16 @@
 // Working on a sheet by lines of text, and what is shown of it.
-ghost use Rattle.std.specs.Prelude.{◌≡◌, IfOk, string_bytes};
-ghost use Rattle.packtext.specs.Shown.{figures_of, sheet_after, answer_of, done_with, BookGrows, figures_text, answer_text, sheet_text};
+ghost use Rattle.std.specs.Prelude.{◌≡◌, Some};
+ghost use Rattle.packtext.specs.Shown.{figures_of, sheet_after, answer_of, done_with, BookGrows, summary_of, figures_text, item_text, answer_text, summary_text, sheet_text};
 ghost use Rattle.pack.specs.Sheets.{applied};
 
 use crate::read::pack_line;
 use pack::{PackLine, PackSheet};
-use std::alloc::{AllocError, Global};
+use std::fmt;
 use std::num::saturating_f64_to_u64;
-use text::BadField;
+use text::{BadField, Numbered};
 
 // What is shown of a sheet: its charge in milliampere-seconds and its remaining seconds, if there
-// are any, both rounded down.
+// are any, both rounded down. It is printed as `CHARGE TIME`, with `-` for no time.
 #[derive(Clone, Copy, PartialEq, Eq, Debug)]
 pub struct Figures {
     pub charge: u64,
@@ -18,7 +18,7 @@ pub struct Figures {
 }
 
 // What was done with a line of text: a pack line that was fit or unfit, with the sheet after it, or
-// the field that is bad.
+// the field that is bad. It is printed as `fit CHARGE TIME`, `unfit CHARGE TIME` or `bad PLACE`.
 #[derive(Clone, Copy, PartialEq, Eq, Debug)]
 pub enum Answer {
     Fit(Figures),
@@ -26,27 +26,40 @@ pub enum Answer {
     Bad(BadField),
 }
 
-impl Figures {
-    // What is shown of this sheet.
-    pub fn of(sheet: &PackSheet) -> Figures
-        ensures { result ≡ figures_of sheet.now }
-    {
-        let charge = saturating_f64_to_u64(sheet.charge());
-        let remaining = match sheet.remaining() {
-            Some(seconds) => Some(saturating_f64_to_u64(seconds)),
-            None => None,
-        };
-        Figures { charge, remaining }
-    }
+// What is shown of a whole sheet: its figures, and how many of its lines were fit and unfit. It is
+// printed as `sheet CHARGE TIME fit COUNT unfit COUNT`.
+#[derive(Clone, Copy, PartialEq, Eq, Debug)]
+pub struct Summary {
+    pub figures: Figures,
+    pub fit: u32,
+    pub unfit: u32,
+}
 
-    // `CHARGE TIME`, with `-` for no time.
-    pub fn text(&self, heap: Global) -> Result<String, AllocError>
-        ensures { IfOk result (λ s. string_bytes s ≡ figures_text self.now) }
+impl From<&PackSheet> for Figures {
+    ghost from_gives = { λ sheet figures. figures ≡ figures_of sheet.now };
+
+    fn from(sheet: &PackSheet) -> Figures {
+        Figures {
+            charge: saturating_f64_to_u64(sheet.charge()),
+            // a closure, since the check admits no statement for this function of std where it is passed by name
+            remaining: sheet
+                .remaining()
+                .map(|seconds| saturating_f64_to_u64(seconds)),
+        }
+    }
+}
+
+impl From<&PackSheet> for Summary {
+    ghost from_gives = { λ sheet summary. summary ≡ summary_of sheet.now };
+
+    fn from(sheet: &PackSheet) -> Summary
+        ensures value { result ≡ summary_of sheet.now }
+        ensures text { ⟦<Summary as fmt::Display>⟧.output result ≡ Some (sheet_text sheet.now) }
     {
-        let charge = self.charge;
-        match self.remaining {
-            Some(seconds) => format!(in heap; "{charge} {seconds}"),
-            None => format!(in heap; "{charge} -"),
+        Summary {
+            figures: Figures::from(sheet),
+            fit: sheet.fit(),
+            unfit: sheet.unfit(),
         }
     }
 }
@@ -58,7 +71,7 @@ fn apply_line(sheet: &mut PackSheet, line: PackLine) -> Answer
 {
     let fit = sheet.fits(line);
     sheet.apply(line);
-    let figures = Figures::of(sheet);
+    let figures = Figures::from(&*sheet);
     if fit {
         Answer::Fit(figures)
     } else {
@@ -80,32 +93,43 @@ pub fn apply_text(sheet: &mut PackSheet, line: &[u8]) -> Answer
 
 impl Answer {
     // The line of output for the line of input with this number.
-    pub fn text(&self, heap: Global, number: u32) -> Result<String, AllocError>
-        ensures { IfOk result (λ s. string_bytes s ≡ answer_text number self.now) }
+    pub fn numbered(self, number: u32) -> Numbered<Answer>
+        ensures value { result ≡ record { number = number; item = self } }
+        ensures text { ⟦<Numbered<Answer> as fmt::Display>⟧.output result ≡ Some (answer_text number self) }
     {
-        match *self {
-            Answer::Fit(figures) => {
-                let shown = figures.text(heap)?;
-                format!(in heap; "{number} fit {shown}")
-            }
-            Answer::Unfit(figures) => {
-                let shown = figures.text(heap)?;
-                format!(in heap; "{number} unfit {shown}")
-            }
-            Answer::Bad(bad) => {
-                let place = bad.place;
-                format!(in heap; "{number} bad {place}")
-            }
+        Numbered { number, item: self }
+    }
+}
+
+impl fmt::Display for Figures {
+    ghost output = { λ figures. Some (figures_text figures) };
+
+    fn fmt<W: fmt::Write>(&self, f: &mut fmt::Formatter<W>) -> fmt::Result {
+        let charge = self.charge;
+        match self.remaining {
+            Some(seconds) => write!(f, "{charge} {seconds}"),
+            None => write!(f, "{charge} -"),
         }
     }
 }
 
-// The line of output for a whole sheet.
-pub fn sheet_text(heap: Global, sheet: &PackSheet) -> Result<String, AllocError>
-    ensures { IfOk result (λ s. string_bytes s ≡ sheet_text sheet.now) }
-{
-    let shown = Figures::of(sheet).text(heap)?;
-    let fit = sheet.fit();
-    let unfit = sheet.unfit();
-    format!(in heap; "sheet {shown} fit {fit} unfit {unfit}")
+impl fmt::Display for Answer {
+    ghost output = { λ answer. Some (item_text answer) };
+
+    fn fmt<W: fmt::Write>(&self, f: &mut fmt::Formatter<W>) -> fmt::Result {
+        match self {
+            Answer::Fit(figures) => write!(f, "fit {figures}"),
+            Answer::Unfit(figures) => write!(f, "unfit {figures}"),
+            Answer::Bad(bad) => write!(f, "{bad}"),
+        }
+    }
+}
+
+impl fmt::Display for Summary {
+    ghost output = { λ summary. Some (summary_text summary) };
+
+    fn fmt<W: fmt::Write>(&self, f: &mut fmt::Formatter<W>) -> fmt::Result {
+        let (figures, fit, unfit) = (self.figures, self.fit, self.unfit);
+        write!(f, "sheet {figures} fit {fit} unfit {unfit}")
+    }
 }

@@ -4,6 +4,7 @@ pub mod Sizes
 pub mod Items
 pub mod Words
 pub mod Faults
+pub mod Shown
 pub mod Store
 pub mod Runs
 pub mod Promises

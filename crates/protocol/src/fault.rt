@@ -1,9 +1,11 @@
 // Why a step is refused, and what the refusal tells.
-ghost use Rattle.std.specs.Prelude.{◌≡◌};
+ghost use Rattle.std.specs.Prelude.{◌≡◌, Some};
 ghost use Rattle.protocol.specs.Faults.{number, layer_of};
+ghost use Rattle.protocol.specs.Shown.{layer_text};
 ghost use Rattle.protocol.specs.declared.fault.StepFault.TheVariants.{OfRoster};
 
 use roster::RosterFault;
+use std::fmt;
 
 // The first question of a step that was answered with no; a roster's fault travels inside, unaltered.
 #[derive(Clone, Copy, PartialEq, Eq, Debug)]
@@ -39,6 +41,17 @@ pub enum StepFault {
 pub enum Layer {
     Group,
     Roster,
+}
+
+impl fmt::Display for Layer {
+    ghost output = { λ l. Some (layer_text l) };
+
+    fn fmt<W: fmt::Write>(&self, f: &mut fmt::Formatter<W>) -> fmt::Result {
+        match self {
+            Layer::Group => f.write_str("group"),
+            Layer::Roster => f.write_str("roster"),
+        }
+    }
 }
 
 // A refusal: the fault, and the worker as it was given to the step.

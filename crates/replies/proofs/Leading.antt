@@ -1,5 +1,5 @@
--- What a line of a script answers and leaves, by what it was read as, and that it leads on to a run.
-use Rattle.std.proofs.Common.{◌≡◌, ℕ, List, Ok, Err, Result, sym, ap, ◌∙◌, subst}
+-- That a line of a script leads on to a run.
+use Rattle.std.proofs.Common.{◌≡◌, ℕ, List, Ok, Err, Result, sym, subst}
 use Rattle.pack.specs.declared.stored.StoredPackLine.{StoredPackLine}
 use Rattle.text.specs.declared.fields.BadField.{BadField}
 use Rattle.protocol.specs.Runs.{History, Run}
@@ -8,12 +8,7 @@ use Rattle.protocol.proofs.Chain.{goes_on, promises}
 use Rattle.commands.specs.declared.command.Command.{Command}
 use Rattle.commands.specs.declared.command.Command.TheVariants.{Do, Sheet}
 use Rattle.commands.specs.Commands.{command_of}
-use Rattle.replies.specs.declared.run.Reply.{Reply}
-use Rattle.replies.specs.declared.run.Reply.TheVariants.{Bad}
-use Rattle.replies.specs.Replies.{reply_to, store_after, history_after, reply_of, store_on, Led, LineGoesOn}
-
-abbrev reply_in : Store StoredPackLine → Result Command BadField → Reply
-reply_in g r = elim r [ Err e ↦ Bad e | Ok c ↦ reply_to g c ]
+use Rattle.replies.specs.Replies.{store_after, history_after, store_on, Led, LineGoesOn}
 
 abbrev store_in : Store StoredPackLine → Result Command BadField → Store StoredPackLine
 store_in g r = elim r [ Err e ↦ g | Ok c ↦ store_after g c ]
@@ -30,13 +25,6 @@ led : (r : Result Command BadField) (g g' : Store StoredPackLine) → g' ≡ sto
 led (Ok (Do s)) g g' e h run = let o = goes_on s g g' e h run in record { run = o.run; promised = o.promised }
 led (Ok (Sheet w)) g g' e h run = stays g g' h e run
 led (Err f) g g' e h run = stays g g' h e run
-
-module _ (g : Store StoredPackLine) (bs : List ℕ) (r : Result Command BadField) (is : r ≡ command_of bs) where
-  pub reply_read : (a : Reply) → a ≡ reply_in g r → a ≡ reply_of g bs
-  reply_read a h = h ∙ ap (reply_in g) is
-
-  pub store_read : (g' : Store StoredPackLine) → g' ≡ store_in g r → g' ≡ store_on g bs
-  store_read g' h = h ∙ ap (store_in g) is
 
 pub line_goes_on : (bs : List ℕ) (g g' : Store StoredPackLine) → g' ≡ store_on g bs → LineGoesOn bs g g'
 line_goes_on bs g g' e h run = led (command_of bs) g g' e h run

@@ -15,8 +15,9 @@ use protocol::{Answer, Layer, Step};
 use roster::{Entry, Roster};
 use text::BadField;
 
-// What is answered to a line of a script.
-#[derive(Clone, Copy)]
+// What is answered to a line of a script. It is printed as `ok`, `held`, `no FAULT LAYER`, `sheet LINES CHARGE TIME`
+// or `bad PLACE`.
+#[derive(Clone, Copy, PartialEq, Eq, Debug)]
 pub enum Reply {
     // the step was done
     Done,
@@ -52,7 +53,7 @@ fn sheet_of(group: &Group<'_, StoredPackLine>, worker: usize) -> Reply
 {
     let to = held_to(group, worker);
     match pack_sheet(group, worker, to) {
-        Ok(sheet) => Reply::Sheet(to, Figures::of(&sheet)),
+        Ok(sheet) => Reply::Sheet(to, Figures::from(&sheet)),
         Err(refusal) => Reply::Refused(refusal.fault.number(), refusal.layer()),
     }
 }

@@ -48,7 +48,7 @@ fn play_lines<R: Roster<Entry<StoredPackLine>>>(
     );
     for (number, line) in (2u32..).zip(lines) {
         let reply = run_line(&mut group, roster, line);
-        rt.println(reply.text(heap, number)?)?;
+        rt.println(reply.numbered(number))?;
     }
     Ok(())
 }
@@ -68,9 +68,6 @@ fn main(rt: HostRuntime) -> io::Result<()> {
             let mut roster = PlainRoster::new(entries.as_mut_slice());
             play_lines(&rt, lines, workers, &mut roster)
         }
-        Err(bad) => {
-            let place = bad.place;
-            println!(rt; "1 bad {place}")
-        }
+        Err(bad) => println!(rt; "1 {bad}"),
     }
 }

@@ -1,10 +1,12 @@
 // The fields of one line of text, and which field is bad.
-ghost use Rattle.std.specs.Prelude.{◌≡◌, ℕ, ◌+◌, ◌^◌, ◌<◌, ◌≤◌, List, length, Option, IfOk};
+ghost use Rattle.std.specs.Prelude.{◌≡◌, ℕ, ◌+◌, ◌^◌, ◌<◌, ◌≤◌, List, length, Some, Option, IfOk};
 ghost use Rattle.std.specs.Fn.{FnOnceReturnsAt};
 ghost use Rattle.text.specs.Reading.{Parted, Taken, Unread, Computes, Reads, length_check, contents, unread_at, first_field, read_by, past_field, letter_in, number32_in, end_of, whole_line};
 ghost use Rattle.text.specs.Texts.{number_of};
+ghost use Rattle.text.specs.Shown.{bad_text};
 
 use crate::bytes::{letter_of, number_of, number32_of, run_length};
+use std::fmt;
 use std::marker::Model;
 
 // The place, counted from 1, of the first byte of the first field that is wrong, empty, missing or
@@ -12,6 +14,14 @@ use std::marker::Model;
 #[derive(Clone, Copy, PartialEq, Eq, Debug)]
 pub struct BadField {
     pub place: usize,
+}
+
+impl fmt::Display for BadField {
+    ghost output = { λ e. Some (bad_text e) };
+
+    fn fmt<W: fmt::Write>(&self, f: &mut fmt::Formatter<W>) -> fmt::Result {
+        write!(f, "bad {}", self.place)
+    }
 }
 
 // The fields of a line that are still unread. They stand one space apart.

@@ -4,7 +4,9 @@
 mod bytes;
 mod fields;
 mod lines;
+mod numbered;
 
 pub use bytes::number32_of;
 pub use fields::{BadField, Fields, check_length, parse_line};
 pub use lines::Lines;
+pub use numbered::Numbered;

@@ -1,8 +1,7 @@
 -- Cells that were cleared with no line marked have no line.
-use Rattle.std.proofs.Common.{◌≡◌, ℕ, zero, suc, ◌+◌, ◌*◌, ◌<◌, ◌≤◌, true, false, cond, List, [], ◌∷◌, length, get_or, set, None, Option, refl, ap, ◌∙◌, ⊎_elim, arith}
-use Rattle.std.proofs.lemmas.List.{length-set, get_or-set_other}
+use Rattle.std.proofs.Common.{◌≡◌, ℕ, zero, suc, ◌+◌, ◌*◌, ◌<◌, ◌≤◌, List, [], ◌∷◌, get_or, set, None, Option, refl, ap, ◌∙◌, ⊎_elim, arith}
+use Rattle.std.proofs.lemmas.List.{get_or-set_other}
 use Rattle.std.proofs.lemmas.Bool.{cases_eq}
-use Rattle.protocol.specs.Lines.{marked}
 use Rattle.protocol.specs.Store.{cleared, held, lines_in}
 
 set-none : {L : Type 0} (xs : List (Option L)) (i : ℕ) → get_or (set xs i None) i None ≡ None
@@ -11,7 +10,7 @@ set-none (x ∷ xs) zero = refl
 set-none (x ∷ xs) (suc i) = set-none xs i
 
 -- with no line marked, each cell is emptied
-pub emptied_at : {L : Type 0} (w n k : ℕ) (cells : List (Option L)) → k < n → get_or (cleared 0 w n cells) (64 * w + k) None ≡ None
+emptied_at : {L : Type 0} (w n k : ℕ) (cells : List (Option L)) → k < n → get_or (cleared 0 w n cells) (64 * w + k) None ≡ None
 unfolding cleared
 emptied_at w zero k cells h = absurd (omega arith)
 emptied_at w (suc n) k cells h =
@@ -27,10 +26,3 @@ lines_emptied w (suc n) m cells h =
     let a = lines_emptied w n m cells (omega arith) in
     let b = ap held (emptied_at w m n cells (omega arith)) in
     omega arith
-
-pub length-cleared : {L : Type 0} (c w n : ℕ) (cells : List (Option L)) → length (cleared c w n cells) ≡ length cells
-unfolding cleared
-length-cleared c w zero cells = refl
-length-cleared c w (suc n) cells =
-    elim (marked c (n + 1)) as (λ b. length (cond b (cleared c w n cells) (set (cleared c w n cells) (64 * w + n) None)) ≡ length cells)
-    [ true ↦ length-cleared c w n cells | false ↦ length-set (cleared c w n cells) (64 * w + n) None ∙ length-cleared c w n cells ]

@@ -1,3 +1,1 @@
-pub mod Delivered
 pub mod Empties
-pub mod Prepared

@@ -1,25 +1,19 @@
 // What a Prepare or a Proposal does to the acceptor that it comes to.
-ghost use Rattle.std.specs.Prelude.{◌≡◌, ◌+◌, ◌*◌, ◌<◌, ◌≤◌, length, Some};
+ghost use Rattle.std.specs.Prelude.{◌≡◌, length, Some};
 ghost use Rattle.protocol.specs.declared.message.Message.TheVariants.{Prepare, Proposal};
 ghost use Rattle.protocol.specs.Limits.{lines};
-ghost use Rattle.protocol.specs.Store.{Same, settled, lines_in, seated_cells, seated_worker, timely_at, may_deliver, deliver_by};
-ghost use Rattle.memory.specs.Views.{store_in, no_roster, SizedIn};
-ghost use Rattle.tables.specs.Views.{table_of};
+ghost use Rattle.protocol.specs.Store.{Same, settled, lines_in, seated_cells, seated_worker, may_deliver, deliver_by};
+ghost use Rattle.memory.specs.Views.{store_in, no_roster, HasWorker};
+ghost use Rattle.tables.specs.Views.{table_of, HasRow};
 
-use memory::Memory;
+use crate::heading::Heading;
+use memory::{Memory, must};
 use protocol::{Message, StepFault, Worker};
 use tables::{Table, send_counted};
 
-// Whether a Prepare or a Proposal is timely for an acceptor.
-fn timely_at(x: Worker, epoch: u32, claim: u32) -> bool
-    ensures { result ≡ timely_at x epoch claim }
-{
-    !(epoch < x.sits || epoch == x.sits && claim < x.promise)
-}
-
 // How many lines an acceptor has accepted, once it sits under the entry at `epoch`.
 fn seated_count<L: Copy>(cells: &Table<'_, Option<L>>, x: Worker, epoch: u32, w: usize) -> u32
-    requires { lines * w + lines ≤ length (table_of cells.now) }
+    requires { HasRow cells.now w }
     ensures { result ≡ lines_in w lines (seated_cells x epoch w (table_of cells.now)) }
 {
     if x.sits < epoch {
@@ -30,7 +24,7 @@ fn seated_count<L: Copy>(cells: &Table<'_, Option<L>>, x: Worker, epoch: u32, w:
 
 // Empties the accepted cells of an acceptor that comes to sit under a later entry.
 fn seat_cells<L: Copy>(cells: &mut Table<'_, Option<L>>, x: Worker, epoch: u32, w: usize)
-    requires { lines * w + lines ≤ length (table_of cells.old) }
+    requires { HasRow cells.old w }
     ensures cells { table_of cells.new ≡ seated_cells x epoch w (table_of cells.old) }
     ensures places { length (table_of cells.new) ≡ length (table_of cells.old) }
 {
@@ -56,42 +50,32 @@ pub(crate) fn on_prepare<L: Copy>(
     group: &mut Memory<'_, L>,
     x: Worker,
     w: usize,
-    from: usize,
-    to: usize,
-    epoch: u32,
-    claim: u32,
+    heading: Heading,
 ) -> Result<(), StepFault>
-    requires sized { SizedIn (store_in group.old no_roster) }
-    requires known { w < length (table_of group.old.workers) }
-    ensures value { result ≡ may_deliver (Some (Prepare from to epoch claim)) x w (store_in group.old no_roster) }
-    ensures after { Same (store_in group.new no_roster) (settled result (deliver_by (Some (Prepare from to epoch claim)) x w (store_in group.old no_roster)) (store_in group.old no_roster)) }
+    requires { HasWorker group.old w }
+    ensures value { result ≡ may_deliver (Some (Prepare heading.from heading.to heading.epoch heading.claim)) x w (store_in group.old no_roster) }
+    ensures after { Same (store_in group.new no_roster) (settled result (deliver_by (Some (Prepare heading.from heading.to heading.epoch heading.claim)) x w (store_in group.old no_roster)) (store_in group.old no_roster)) }
 {
-    if to != w {
-        return Err(StepFault::NotAddressed);
-    }
-    if !timely_at(x, epoch, claim) {
-        return Err(StepFault::Late);
-    }
-    let lines = seated_count(&group.accepted, x, epoch, w);
-    if group.messages.len() + lines as usize >= group.messages.places() {
-        return Err(StepFault::NoRoom);
-    }
-    seat_cells(&mut group.accepted, x, epoch, w);
-    group.workers.all[w] = seated(x, epoch, claim);
+    heading.must_suit_acceptor(x, w)?;
+    let lines = seated_count(&group.accepted, x, heading.epoch, w);
+    let room = group.messages.len() + (lines as usize) < group.messages.places();
+    must(room, StepFault::NoRoom)?;
+    seat_cells(&mut group.accepted, x, heading.epoch, w);
+    group.workers.all[w] = seated(x, heading.epoch, heading.claim);
     group.messages.push(Message::Promise {
         from: w,
-        to: from,
-        epoch,
-        claim,
+        to: heading.from,
+        epoch: heading.epoch,
+        claim: heading.claim,
         count: lines,
     });
     send_counted(
         &mut group.messages,
         &group.accepted,
         w,
-        from,
-        epoch,
-        claim,
+        heading.from,
+        heading.epoch,
+        heading.claim,
         lines,
     );
     Ok(())
@@ -103,30 +87,19 @@ pub(crate) fn on_proposal<L: Copy>(
     group: &mut Memory<'_, L>,
     x: Worker,
     w: usize,
-    from: usize,
-    to: usize,
-    epoch: u32,
-    claim: u32,
+    heading: Heading,
     line: usize,
     value: L,
 ) -> Result<(), StepFault>
-    requires sized { SizedIn (store_in group.old no_roster) }
-    requires known { w < length (table_of group.old.workers) }
-    ensures value { result ≡ may_deliver (Some (Proposal from to epoch claim line value)) x w (store_in group.old no_roster) }
-    ensures after { Same (store_in group.new no_roster) (settled result (deliver_by (Some (Proposal from to epoch claim line value)) x w (store_in group.old no_roster)) (store_in group.old no_roster)) }
+    requires { HasWorker group.old w }
+    ensures value { result ≡ may_deliver (Some (Proposal heading.from heading.to heading.epoch heading.claim line value)) x w (store_in group.old no_roster) }
+    ensures after { Same (store_in group.new no_roster) (settled result (deliver_by (Some (Proposal heading.from heading.to heading.epoch heading.claim line value)) x w (store_in group.old no_roster)) (store_in group.old no_roster)) }
 {
-    if to != w {
-        return Err(StepFault::NotAddressed);
-    }
-    if !timely_at(x, epoch, claim) {
-        return Err(StepFault::Late);
-    }
-    if group.messages.len() >= group.messages.places() {
-        return Err(StepFault::NoRoom);
-    }
-    seat_cells(&mut group.accepted, x, epoch, w);
+    heading.must_suit_acceptor(x, w)?;
+    must(group.messages.has_room(), StepFault::NoRoom)?;
+    seat_cells(&mut group.accepted, x, heading.epoch, w);
     group.accepted.put(w, line, value);
-    group.workers.all[w] = seated(x, epoch, claim);
+    group.workers.all[w] = seated(x, heading.epoch, heading.claim);
     group.messages.push(Message::Learn {
         from: w,
         line,

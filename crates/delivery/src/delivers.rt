@@ -1,12 +1,12 @@
 // Delivering a message.
-ghost use Rattle.std.specs.Prelude.{◌≡◌, ◌<◌, length, Some};
+ghost use Rattle.std.specs.Prelude.{◌≡◌, Some};
 ghost use Rattle.protocol.specs.Store.{Same, settled, may_deliver, deliver_by, deliver_result, deliver_done};
-ghost use Rattle.memory.specs.Views.{store_in, no_roster, SizedIn};
-ghost use Rattle.tables.specs.Views.{table_of};
+ghost use Rattle.memory.specs.Views.{store_in, no_roster, HasWorker};
 
 use crate::acceptor::{on_prepare, on_proposal};
+use crate::heading::Heading;
 use crate::leader::{on_promise, on_report};
-use memory::Memory;
+use memory::{Memory, must};
 use protocol::{Message, StepFault, Worker};
 
 // A message comes to worker w, whose record is x.
@@ -16,46 +16,17 @@ fn on_message<L: Copy>(
     w: usize,
     message: &Message<L>,
 ) -> Result<(), StepFault>
-    requires sized { SizedIn (store_in group.old no_roster) }
-    requires known { w < length (table_of group.old.workers) }
+    requires { HasWorker group.old w }
     ensures value { result ≡ may_deliver (Some message.now) x w (store_in group.old no_roster) }
     ensures after { Same (store_in group.new no_roster) (settled result (deliver_by (Some message.now) x w (store_in group.old no_roster)) (store_in group.old no_roster)) }
 {
+    let heading = Heading::from(message);
     match *message {
-        Message::Prepare {
-            from,
-            to,
-            epoch,
-            claim,
-        } => on_prepare(group, x, w, from, to, epoch, claim),
-        Message::Proposal {
-            from,
-            to,
-            epoch,
-            claim,
-            line,
-            value,
-        } => { on_proposal(group, x, w, from, to, epoch, claim, line, value) }
-        Message::Promise {
-            from,
-            to,
-            epoch,
-            claim,
-            count,
-        } => on_promise(group, x, w, from, to, epoch, claim, count),
-        Message::Report {
-            from,
-            to,
-            epoch,
-            claim,
-            line,
-            value,
-        } => { on_report(group, x, w, from, to, epoch, claim, line, value) }
-        Message::Learn {
-            from: _,
-            line,
-            value,
-        } => {
+        Message::Prepare { .. } => on_prepare(group, x, w, heading),
+        Message::Proposal { line, value, .. } => on_proposal(group, x, w, heading, line, value),
+        Message::Promise { count, .. } => on_promise(group, x, w, heading, count),
+        Message::Report { line, value, .. } => on_report(group, x, w, heading, line, value),
+        Message::Learn { line, value, .. } => {
             group.learned.fill(w, line, value);
             Ok(())
         }
@@ -68,9 +39,7 @@ pub fn deliver<L: Copy>(group: &mut Memory<'_, L>, m: usize, w: usize) -> Result
     ensures after { Same (store_in group.new no_roster) (settled result (deliver_done m w (store_in group.old no_roster)) (store_in group.old no_roster)) }
 {
     let x = group.worker(w)?;
-    if m >= group.messages.len() {
-        return Err(StepFault::NoMessage);
-    }
+    must(m < group.messages.len(), StepFault::NoMessage)?;
     let message = group.messages.get(m);
     on_message(group, x, w, &message)
 }

@@ -3,6 +3,7 @@
 
 mod acceptor;
 mod delivers;
+mod heading;
 mod leader;
 
 pub use delivers::deliver;

@@ -1,12 +1,12 @@
 // Asking for a promise, proposing a line, and losing a message.
-ghost use Rattle.std.specs.Prelude.{◌≡◌, ◌+◌, ◌*◌, ◌<◌, ◌≤◌, length, Some, None, slice_index_or, slice_set};
+ghost use Rattle.std.specs.Prelude.{◌≡◌, ◌≤◌, Some, OnOk, slice_set};
 ghost use Rattle.protocol.specs.Limits.{lines};
 ghost use Rattle.protocol.specs.Lines.{cell_of};
 ghost use Rattle.protocol.specs.Store.{Same, settled, may_prepare, may_propose, cell_at, sent_as, line_sent, prepare_result, prepare_done, propose_result, propose_done, lose_result, lose_done};
 ghost use Rattle.memory.specs.Views.{store_in, no_roster};
-ghost use Rattle.tables.specs.Views.{table_of};
+ghost use Rattle.tables.specs.Views.{table_of, HasRow};
 
-use memory::Memory;
+use memory::{Memory, must, must_be_line, must_lead};
 use protocol::{Answer, Message, StepFault, Worker};
 use tables::Table;
 
@@ -14,13 +14,8 @@ use tables::Table;
 fn may_prepare(x: Worker, room: bool) -> Result<(), StepFault>
     ensures { result ≡ may_prepare x room }
 {
-    if x.claim < 1 {
-        return Err(StepFault::NotReady);
-    }
-    if !room {
-        return Err(StepFault::NoRoom);
-    }
-    Ok(())
+    must(x.claim > 0, StepFault::NotReady)?;
+    must(room, StepFault::NoRoom)
 }
 
 // Worker w asks its seat for a promise.
@@ -29,8 +24,7 @@ pub fn prepare<L: Copy>(group: &mut Memory<'_, L>, w: usize) -> Result<(), StepF
     ensures after { Same (store_in group.new no_roster) (settled result (prepare_done w (store_in group.old no_roster)) (store_in group.old no_roster)) }
 {
     let x = group.worker(w)?;
-    let room = group.messages.len() < group.messages.places();
-    may_prepare(x, room)?;
+    may_prepare(x, group.messages.has_room())?;
     group.messages.push(Message::Prepare {
         from: w,
         to: x.seat,
@@ -40,52 +34,31 @@ pub fn prepare<L: Copy>(group: &mut Memory<'_, L>, w: usize) -> Result<(), StepF
     Ok(())
 }
 
-// Takes the line of a cell, or puts the given line there.
-fn hold<L: Copy>(cells: &mut [Option<L>], at: usize, given: L) -> (Answer, L)
-    requires { at < length cells.old }
-    ensures how { result.0 ≡ sent_as (slice_index_or cells.old at None) }
-    ensures line { result.1 ≡ line_sent (slice_index_or cells.old at None) given }
-    ensures cells { cells.new ≡ slice_set cells.old at (Some (line_sent (slice_index_or cells.old at None) given)) }
+// Takes the line of worker w's cell for line k, or puts the given line there.
+fn hold<L: Copy>(cells: &mut Table<'_, Option<L>>, w: usize, k: usize, given: L) -> (Answer, L)
+    requires table { HasRow cells.old w }
+    requires line { (1 ≤ k) × (k ≤ lines) }
+    ensures how { result.0 ≡ sent_as (cell_at (table_of cells.old) w k) }
+    ensures line { result.1 ≡ line_sent (cell_at (table_of cells.old) w k) given }
+    ensures cells { table_of cells.new ≡ slice_set (table_of cells.old) (cell_of w k) (Some (line_sent (cell_at (table_of cells.old) w k) given)) }
 {
-    let cell = cells[at];
-    match cell {
+    match cells.cell(w, k) {
         Some(line) => (Answer::Held, line),
         None => {
-            cells[at] = Some(given);
+            cells.put(w, k, given);
             (Answer::Done, given)
         }
     }
 }
 
-// The same at worker w's cell for line k of a table.
-fn hold_at<L: Copy>(cells: &mut Table<'_, Option<L>>, w: usize, k: usize, given: L) -> (Answer, L)
-    requires table { lines * w + lines ≤ length (table_of cells.old) }
-    requires low { 1 ≤ k }
-    requires high { k ≤ lines }
-    ensures how { result.0 ≡ sent_as (cell_at (table_of cells.old) w k) }
-    ensures line { result.1 ≡ line_sent (cell_at (table_of cells.old) w k) given }
-    ensures cells { table_of cells.new ≡ slice_set (table_of cells.old) (cell_of w k) (Some (line_sent (cell_at (table_of cells.old) w k) given)) }
-{
-    hold(cells.all, 64 * w + (k - 1), given)
-}
-
 // To a Propose: a line number (3), a claim (6) that is taken up (7), and room for a message (11).
 fn may_propose(x: Worker, k: usize, room: bool) -> Result<(), StepFault>
-    ensures { result ≡ may_propose x k room }
+    ensures value { result ≡ may_propose x k room }
+    ensures line { OnOk result ((1 ≤ k) × (k ≤ lines)) }
 {
-    if k < 1 || k > 64 {
-        return Err(StepFault::NoLine);
-    }
-    if x.claim < 1 {
-        return Err(StepFault::NotReady);
-    }
-    if !x.taken {
-        return Err(StepFault::NotTaken);
-    }
-    if !room {
-        return Err(StepFault::NoRoom);
-    }
-    Ok(())
+    must_be_line(k)?;
+    must_lead(x)?;
+    must(room, StepFault::NoRoom)
 }
 
 // Worker w proposes a line for line k, or the one that it has in hand.
@@ -99,9 +72,8 @@ pub fn propose<L: Copy>(
     ensures after { Same (store_in group.new no_roster) (settled result (propose_done w k given (store_in group.old no_roster)) (store_in group.old no_roster)) }
 {
     let x = group.worker(w)?;
-    let room = group.messages.len() < group.messages.places();
-    may_propose(x, k, room)?;
-    let (how, value) = hold_at(&mut group.hand, w, k, given);
+    may_propose(x, k, group.messages.has_room())?;
+    let (how, value) = hold(&mut group.hand, w, k, given);
     group.messages.push(Message::Proposal {
         from: w,
         to: x.seat,
@@ -118,12 +90,8 @@ pub fn lose<L: Copy>(group: &mut Memory<'_, L>, m: usize) -> Result<(), StepFaul
     ensures value { result ≡ lose_result m (store_in group.old no_roster) }
     ensures after { Same (store_in group.new no_roster) (settled result (lose_done m (store_in group.old no_roster)) (store_in group.old no_roster)) }
 {
-    if !group.is_made() {
-        return Err(StepFault::Unmade);
-    }
-    if m >= group.messages.len() {
-        return Err(StepFault::NoMessage);
-    }
+    must(group.is_made(), StepFault::Unmade)?;
+    must(m < group.messages.len(), StepFault::NoMessage)?;
     group.messages.lose(m);
     Ok(())
 }

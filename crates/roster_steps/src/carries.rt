@@ -1,12 +1,11 @@
 // Carrying lines over into the roster, and moving the seat.
-ghost use Rattle.std.specs.Prelude.{◌≡◌, ◌+◌, ◌*◌, ◌<◌, ◌≤◌, length, IfOk, Some, None, OnOk, slice_index_or};
+ghost use Rattle.std.specs.Prelude.{◌≡◌, ◌≤◌, IfOk, Some, OnOk};
 ghost use Rattle.protocol.specs.Limits.{lines};
-ghost use Rattle.protocol.specs.Lines.{cell_of};
 ghost use Rattle.protocol.specs.Store.{Same, settled, may_carry, may_reseat, unmarked, cell_at, carry_result, carry_done, reseat_result, reseat_done};
 ghost use Rattle.memory.specs.Views.{store_in};
-ghost use Rattle.tables.specs.Views.{table_of};
+ghost use Rattle.tables.specs.Views.{table_of, HasRow};
 
-use memory::{Memory, enter};
+use memory::{Memory, enter, must, must_be_line, must_lead};
 use protocol::{StepFault, Worker};
 use roster::{Entry, Roster};
 use tables::{Table, bit, has};
@@ -16,50 +15,25 @@ fn may_carry(x: Worker, k: usize) -> Result<(), StepFault>
     ensures value { result ≡ may_carry x k }
     ensures line { OnOk result ((1 ≤ k) × (k ≤ lines)) }
 {
-    if k < 1 || k > 64 {
-        return Err(StepFault::NoLine);
-    }
-    if x.claim < 1 {
-        return Err(StepFault::NotReady);
-    }
-    if !x.taken {
-        return Err(StepFault::NotTaken);
-    }
-    Ok(())
+    must_be_line(k)?;
+    must_lead(x)
 }
 
-// The line of a cell for line k that is not marked as carried (9).
-fn unmarked_in<L: Copy>(cells: &[Option<L>], at: usize, x: Worker, k: usize) -> Result<L, StepFault>
-    requires { at < length cells.now }
-    ensures value { result ≡ unmarked x k (slice_index_or cells.now at None) }
-    ensures line { IfOk result (λ l. slice_index_or cells.now at None ≡ Some l) }
-{
-    let cell = cells[at];
-    match cell {
-        Some(line) => {
-            if has(x.carried, k) {
-                return Err(StepFault::WrongLine);
-            }
-            Ok(line)
-        }
-        None => Err(StepFault::WrongLine),
-    }
-}
-
-// The same at worker w's cell for line k of a table.
-fn unmarked_at<L: Copy>(
+// The line of worker w's cell for line k, which is not marked as carried (9).
+fn unmarked<L: Copy>(
     cells: &Table<'_, Option<L>>,
     x: Worker,
     w: usize,
     k: usize,
 ) -> Result<L, StepFault>
-    requires table { lines * w + lines ≤ length (table_of cells.now) }
-    requires low { 1 ≤ k }
-    requires high { k ≤ lines }
+    requires table { HasRow cells.now w }
+    requires line { (1 ≤ k) × (k ≤ lines) }
     ensures value { result ≡ unmarked x k (cell_at (table_of cells.now) w k) }
     ensures line { IfOk result (λ l. cell_at (table_of cells.now) w k ≡ Some l) }
 {
-    unmarked_in(cells.all, 64 * w + (k - 1), x, k)
+    let line = cells.cell(w, k).ok_or(StepFault::WrongLine)?;
+    must(!has(x.carried, k), StepFault::WrongLine)?;
+    Ok(line)
 }
 
 // Worker w carries its line k over into the roster.
@@ -74,7 +48,7 @@ pub fn carry<L: Copy, R: Roster<Entry<L>>>(
 {
     let x = group.worker(w)?;
     may_carry(x, k)?;
-    let line = unmarked_at(&group.hand, x, w, k)?;
+    let line = unmarked(&group.hand, x, w, k)?;
     enter(roster, x.mark as usize + 1, Entry::Carry(k, line))?;
     group.workers.all[w] = Worker {
         mark: x.mark + 1,
@@ -89,22 +63,10 @@ pub fn carry<L: Copy, R: Roster<Entry<L>>>(
 fn may_reseat(x: Worker, w: usize, b: usize, n: usize, marks: bool) -> Result<(), StepFault>
     ensures { result ≡ may_reseat x w b n marks }
 {
-    if b >= n {
-        return Err(StepFault::NoWorker);
-    }
-    if x.claim < 1 {
-        return Err(StepFault::NotReady);
-    }
-    if !x.taken {
-        return Err(StepFault::NotTaken);
-    }
-    if b == w || b == x.seat {
-        return Err(StepFault::WrongSeat);
-    }
-    if !marks {
-        return Err(StepFault::WrongLine);
-    }
-    Ok(())
+    must(b < n, StepFault::NoWorker)?;
+    must_lead(x)?;
+    must(b != w && b != x.seat, StepFault::WrongSeat)?;
+    must(marks, StepFault::WrongLine)
 }
 
 // Worker w moves the seat (active acceptor) to worker b.

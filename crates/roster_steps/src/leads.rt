@@ -3,7 +3,7 @@ ghost use Rattle.std.specs.Prelude.{◌≡◌};
 ghost use Rattle.protocol.specs.Store.{Same, settled, may_lead, found_result, found_done, lead_result, lead_done};
 ghost use Rattle.memory.specs.Views.{store_in};
 
-use memory::{Memory, enter};
+use memory::{Memory, enter, must};
 use protocol::{StepFault, Worker};
 use roster::{Entry, Roster};
 
@@ -16,7 +16,7 @@ pub fn found<L: Copy, R: Roster<Entry<L>>>(
     ensures value { result ≡ found_result a (store_in group.old (R.model roster.old)) }
     ensures after { Same (store_in group.new (R.model roster.new)) (settled result (found_done a (store_in group.old (R.model roster.old))) (store_in group.old (R.model roster.old))) }
 {
-    let _x = group.worker(a)?;
+    group.worker(a)?;
     enter(roster, 1, Entry::Seat(a))?;
     Ok(())
 }
@@ -25,13 +25,8 @@ pub fn found<L: Copy, R: Roster<Entry<L>>>(
 fn may_lead(x: Worker, w: usize) -> Result<(), StepFault>
     ensures { result ≡ may_lead x w }
 {
-    if x.epoch < 1 {
-        return Err(StepFault::NotReady);
-    }
-    if w == x.seat {
-        return Err(StepFault::WrongSeat);
-    }
-    Ok(())
+    must(x.epoch > 0, StepFault::NotReady)?;
+    must(w != x.seat, StepFault::WrongSeat)
 }
 
 // Worker w makes a claim (proposal number): the place of its Lead entry.

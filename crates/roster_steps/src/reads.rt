@@ -1,10 +1,9 @@
 // Reading the roster's next entry.
-ghost use Rattle.std.specs.Prelude.{◌≡◌, ◌+◌, ◌*◌, ◌<◌, ◌≤◌, length};
+ghost use Rattle.std.specs.Prelude.{◌≡◌, ◌<◌};
 ghost use Rattle.roster.specs.Limits.{entries_max};
-ghost use Rattle.protocol.specs.Limits.{lines};
 ghost use Rattle.protocol.specs.Store.{Same, settled, read_worker, carried_in, read_result, read_done};
 ghost use Rattle.memory.specs.Views.{store_in};
-ghost use Rattle.tables.specs.Views.{table_of};
+ghost use Rattle.tables.specs.Views.{table_of, HasRow};
 
 use memory::{Memory, fetch};
 use protocol::{StepFault, Worker};
@@ -40,13 +39,12 @@ fn noted<L: Copy>(x: Worker, e: &Entry<L>) -> Worker
 
 // Puts the line of a Carry into worker w's cells.
 fn carry_in<L: Copy>(cells: &mut Table<'_, Option<L>>, w: usize, e: &Entry<L>)
-    requires { lines * w + lines ≤ length (table_of cells.old) }
+    requires { HasRow cells.old w }
     ensures { table_of cells.new ≡ carried_in e.now w (table_of cells.old) }
 {
     match *e {
-        Entry::Lead(_) => {}
-        Entry::Seat(_) => {}
         Entry::Carry(k, line) => cells.put(w, k, line),
+        Entry::Lead(_) | Entry::Seat(_) => {}
     }
 }
 

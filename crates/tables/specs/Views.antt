@@ -5,7 +5,7 @@
 -- places_of s     how many places that table has
 -- free_of s       what the places past that list hold
 -- row_of w cells  the cells of worker w in a table of 64 cells a worker
--- HasWorker t w   the lent table t has the cells of worker w
+-- HasRow t w      the lent table t has the cells of worker w
 use Rattle.std.specs.Prelude.{ℕ, ◌+◌, ◌*◌, ◌≤◌, List, length, take, drop}
 use Rattle.protocol.specs.Limits.{lines}
 use Rattle.tables.specs.declared.lent.Table.{Table}
@@ -26,5 +26,5 @@ free_of s = drop s.len s.table.now
 abbrev pub row_of : {C : Type 0} → ℕ → List C → List C
 row_of w cells = take lines (drop (lines * w) cells)
 
-abbrev pub HasWorker : {C : Type 0} → Table C → ℕ → Type 0
-HasWorker t w = lines * w + lines ≤ length t.all.now
+abbrev pub HasRow : {C : Type 0} → Table C → ℕ → Type 0
+HasRow t w = lines * w + lines ≤ length t.all.now

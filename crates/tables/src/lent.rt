@@ -1,5 +1,5 @@
 // Memory that is lent: a whole table, and a list in the first places of one.
-ghost use Rattle.std.specs.Prelude.{◌≡◌, ◌+◌, ◌-◌, ◌<◌, [], ◌∷◌, ◌++◌, drop, length, Some};
+ghost use Rattle.std.specs.Prelude.{◌≡◌, ◌+◌, ◌-◌, ◌<◌, [], ◌∷◌, ◌++◌, drop, length, nat_lt, Some};
 ghost use Rattle.protocol.specs.Items.{item_at};
 ghost use Rattle.protocol.specs.Store.{lost_at};
 ghost use Rattle.tables.specs.Views.{free_of, list_of, places_of};
@@ -39,6 +39,13 @@ impl<'a, T: Copy> LentList<'a, T> {
         ensures { result ≡ places_of self.now }
     {
         self.table.len()
+    }
+
+    // Whether it has room for one more.
+    pub fn has_room(&self) -> bool
+        ensures { result ≡ nat_lt (length (list_of self.now)) (places_of self.now) }
+    {
+        self.len() < self.places()
     }
 
     // The item at an index, counted from 0.

@@ -2,7 +2,7 @@
 ghost use Rattle.std.specs.Prelude.{◌≡◌, ◌+◌, ◌≤◌, ◌++◌, length};
 ghost use Rattle.protocol.specs.Limits.{lines};
 ghost use Rattle.protocol.specs.Store.{lines_in, reports};
-ghost use Rattle.tables.specs.Views.{list_of, places_of, table_of, HasWorker};
+ghost use Rattle.tables.specs.Views.{list_of, places_of, table_of, HasRow};
 
 use crate::lent::{LentList, Table};
 use protocol::Message;
@@ -19,7 +19,7 @@ pub fn send_counted<L: Copy>(
     count: u32,
 )
     requires lines { count ≡ lines_in w lines (table_of cells.now) }
-    requires table { HasWorker cells.now w }
+    requires table { HasRow cells.now w }
     requires room { length (list_of messages.old) + lines_in w lines (table_of cells.now) ≤ places_of messages.old }
     ensures items { list_of messages.new ≡ list_of messages.old ++ reports w to epoch claim lines (table_of cells.now) }
     ensures places { places_of messages.new ≡ places_of messages.old }

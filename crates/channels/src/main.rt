@@ -2,14 +2,11 @@
 #![tactic(auto)]
 
 use channeltext::{Summary, apply_text, read_places};
+use input::read_input;
 use keylines::{Channel, Pair};
 use keys::{KeySheet, KeyTable};
 use std::io;
-use std::io::Read;
 use text::Lines;
-
-// The most bytes of input that are read; what follows is left.
-const INPUT_MOST: u64 = 65_536;
 
 // Answers the lines after the first, with a table of so many places.
 fn answer_lines(rt: &HostRuntime, lines: Lines, places: usize) -> io::Result<()> {
@@ -28,8 +25,7 @@ fn answer_lines(rt: &HostRuntime, lines: Lines, places: usize) -> io::Result<()>
 }
 
 fn main(rt: HostRuntime) -> io::Result<()> {
-    let mut bytes = Vec::new(rt.alloc());
-    let _ = rt.stdin().take(INPUT_MOST).read_to_end(&mut bytes)?;
+    let bytes = read_input(rt.alloc(), rt.stdin())?;
     let mut lines = Lines::new(bytes.as_slice());
     let Some(first) = lines.next() else {
         return Ok(());

@@ -2,19 +2,15 @@
 #![tactic(auto)]
 
 use commands::read_setup;
-use group::Group;
+use input::read_input;
 use pack::StoredPackLine;
-use protocol::{Message, Worker};
+use protocol::{LINES, Message};
 use replies::run_line;
 use roster::{Entry, PlainRoster, Roster};
 use std::io;
-use std::io::Read;
+use storage::Storage;
 use text::Lines;
 
-// The most bytes of input that are read; what follows is left.
-const INPUT_MOST: u64 = 65_536;
-// The lines (log entries) of a book, and so the cells of a worker (replica) in each table.
-const LINES: usize = 64;
 // The message places of the group.
 const MESSAGES: usize = 128;
 // The entries of the roster (configuration log).
@@ -27,25 +23,14 @@ fn play_lines<R: Roster<Entry<StoredPackLine>>>(
     workers: usize,
     roster: &mut R,
 ) -> io::Result<()> {
-    let heap = rt.alloc();
     let unsent = Message::Learn {
         from: 0,
         line: 0,
         value: StoredPackLine::Idle(0),
     };
     let cells = LINES.saturating_mul(workers);
-    let mut records = vec![in heap; Worker::default(); workers]?;
-    let mut hand = vec![in heap; None; cells]?;
-    let mut accepted = vec![in heap; None; cells]?;
-    let mut learned = vec![in heap; None; cells]?;
-    let mut messages = vec![in heap; unsent; MESSAGES]?;
-    let mut group = Group::new(
-        records.as_mut_slice(),
-        hand.as_mut_slice(),
-        accepted.as_mut_slice(),
-        learned.as_mut_slice(),
-        messages.as_mut_slice(),
-    );
+    let mut storage = Storage::new(rt.alloc(), workers, cells, MESSAGES, unsent)?;
+    let mut group = storage.group();
     for (number, line) in (2u32..).zip(lines) {
         let reply = run_line(&mut group, roster, line);
         rt.println(reply.numbered(number))?;
@@ -54,9 +39,7 @@ fn play_lines<R: Roster<Entry<StoredPackLine>>>(
 }
 
 fn main(rt: HostRuntime) -> io::Result<()> {
-    let heap = rt.alloc();
-    let mut bytes = Vec::new(heap);
-    let _ = rt.stdin().take(INPUT_MOST).read_to_end(&mut bytes)?;
+    let bytes = read_input(rt.alloc(), rt.stdin())?;
     let mut lines = Lines::new(bytes.as_slice());
     let Some(first) = lines.next() else {
         return Ok(());
@@ -64,7 +47,7 @@ fn main(rt: HostRuntime) -> io::Result<()> {
     match read_setup(first) {
         Ok(workers) => {
             println!(rt; "1 ok")?;
-            let mut entries = vec![in heap; Entry::Lead(0); ENTRIES]?;
+            let mut entries = vec![in rt.alloc(); Entry::Lead(0); ENTRIES]?;
             let mut roster = PlainRoster::new(entries.as_mut_slice());
             play_lines(&rt, lines, workers, &mut roster)
         }

@@ -6,7 +6,7 @@ use input::read_input;
 use keylines::{Channel, Pair};
 use keys::{KeySheet, KeyTable};
 use std::io;
-use text::Lines;
+use text::{Lines, Numbered};
 
 // Answers the lines after the first, with a table of so many places.
 fn answer_lines(rt: &HostRuntime, lines: Lines, places: usize) -> io::Result<()> {
@@ -19,7 +19,7 @@ fn answer_lines(rt: &HostRuntime, lines: Lines, places: usize) -> io::Result<()>
     let mut sheet = KeySheet::new();
     for (number, line) in (2u32..).zip(lines) {
         let answer = apply_text(&mut sheet, &mut table, line);
-        rt.println(answer.numbered(number))?;
+        rt.println(Numbered { number, answer })?;
     }
     rt.println(Summary::new(&sheet, &table))
 }

@@ -1,28 +1,26 @@
 // Answering requests to a key sheet, and what is shown of them.
 ghost use Rattle.std.specs.Prelude.{◌≡◌, Some};
 ghost use Rattle.channeltext.specs.Requests.{good_lines};
-ghost use Rattle.channeltext.specs.Shown.{same_channel, line_answer, found_answer, largest_answer, answer_to, after_request, answer_of, sheet_after, summary_of, item_text, answer_text, summary_text, sheet_text};
+ghost use Rattle.channeltext.specs.Shown.{same_channel, line_answer, answer_to, after_request, answer_of, sheet_after, summary_of, answer_text, summary_text, sheet_text};
 ghost use Rattle.keylines.specs.Laws.{LawsGoOn};
 ghost use Rattle.keylines.specs.Sheets.{applied};
-ghost use Rattle.keys.specs.Views.{SameSlice, table_capacity, table_pairs, sheet_now};
+ghost use Rattle.keys.specs.Views.{SameSlice, table_capacity, sheet_now};
 
 use crate::read::{Request, read_request};
 use keylines::{Channel, ChannelLine};
 use keys::{KeySheet, KeyTable};
 use std::fmt;
-use text::{BadField, Numbered};
+use text::BadField;
 
-// What was answered to a line of text: a channel line that was fit or unfit, with the number of pairs
-// after it; the words of a channel; the largest channel; nothing, where there is none; or the field that is bad.
-// It is printed as `fit USED`, `unfit USED`, `words WORD WORD`, `largest KEY`, `none` or `bad PLACE`.
+// What was answered to a request: a channel line that was fit or unfit, with the number of pairs after it; the words of
+// a channel, or the largest channel, where there is one. It is printed as `fit USED`, `unfit USED`, `words WORD WORD`,
+// `largest KEY`, or `none`.
 #[derive(Clone, Copy, PartialEq, Eq, Debug)]
 pub enum ChannelAnswer {
     Fit(usize),
     Unfit(usize),
-    Words([u64; 2]),
-    Largest(Channel),
-    Nothing,
-    Bad(BadField),
+    Words(Option<[u64; 2]>),
+    Largest(Option<Channel>),
 }
 
 // What is shown of a whole sheet and its table: the number of pairs, and how many lines were fit and unfit. It is
@@ -54,24 +52,6 @@ fn answer_line(
     }
 }
 
-// The words of a channel, or nothing.
-fn answer_find(table: &KeyTable<Channel>, key: Channel) -> ChannelAnswer
-    ensures { result ≡ found_answer (table_pairs table.now) key }
-{
-    table
-        .find(key)
-        .map_or(ChannelAnswer::Nothing, ChannelAnswer::Words)
-}
-
-// The largest channel, or nothing.
-fn answer_largest(table: &KeyTable<Channel>) -> ChannelAnswer
-    ensures { result ≡ largest_answer (table_pairs table.now) }
-{
-    table
-        .largest()
-        .map_or(ChannelAnswer::Nothing, ChannelAnswer::Largest)
-}
-
 // Does what a request asks for, and says what was done.
 fn answer_request(
     sheet: &mut KeySheet,
@@ -84,32 +64,24 @@ fn answer_request(
 {
     match request {
         Request::Line(line) => answer_line(sheet, table, line),
-        Request::Find(key) => answer_find(table, key),
-        Request::Largest => answer_largest(table),
+        Request::Find(key) => ChannelAnswer::Words(table.find(key)),
+        Request::Largest => ChannelAnswer::Largest(table.largest()),
     }
 }
 
 // Does what a line of text asks for, and says what was done. Only a channel line changes the table or the sheet.
-pub fn apply_text(sheet: &mut KeySheet, table: &mut KeyTable<Channel>, line: &[u8]) -> ChannelAnswer
+pub fn apply_text(
+    sheet: &mut KeySheet,
+    table: &mut KeyTable<Channel>,
+    line: &[u8],
+) -> Result<ChannelAnswer, BadField>
     ensures value { result ≡ answer_of (table_capacity table.old) (sheet_now table.old sheet.old) line.now }
     ensures after { sheet_now table.new sheet.new ≡ sheet_after (table_capacity table.old) (sheet_now table.old sheet.old) line.now }
     ensures slice { SameSlice table.old table.new }
     ensures law { LawsGoOn same_channel (table_capacity table.old) (sheet_now table.old sheet.old) (good_lines line.now) (sheet_now table.new sheet.new) }
 {
-    match read_request(line) {
-        Ok(request) => answer_request(sheet, table, request),
-        Err(bad) => ChannelAnswer::Bad(bad),
-    }
-}
-
-impl ChannelAnswer {
-    // The line of output for the line of input with this number.
-    pub fn numbered(self, number: u32) -> Numbered<ChannelAnswer>
-        ensures value { result ≡ record { number = number; item = self } }
-        ensures text { ⟦<Numbered<ChannelAnswer> as fmt::Display>⟧.output result ≡ Some (answer_text number self) }
-    {
-        Numbered { number, item: self }
-    }
+    let request = read_request(line)?;
+    Ok(answer_request(sheet, table, request))
 }
 
 impl Summary {
@@ -127,16 +99,15 @@ impl Summary {
 }
 
 impl fmt::Display for ChannelAnswer {
-    ghost output = { λ answer. Some (item_text answer) };
+    ghost output = { λ answer. Some (answer_text answer) };
 
     fn fmt<W: fmt::Write>(&self, f: &mut fmt::Formatter<W>) -> fmt::Result {
         match self {
             ChannelAnswer::Fit(used) => write!(f, "fit {used}"),
             ChannelAnswer::Unfit(used) => write!(f, "unfit {used}"),
-            ChannelAnswer::Words([first, second]) => write!(f, "words {first} {second}"),
-            ChannelAnswer::Largest(key) => write!(f, "largest {}", key.number),
-            ChannelAnswer::Nothing => write!(f, "none"),
-            ChannelAnswer::Bad(bad) => write!(f, "{bad}"),
+            ChannelAnswer::Words(Some([first, second])) => write!(f, "words {first} {second}"),
+            ChannelAnswer::Largest(Some(key)) => write!(f, "largest {}", key.number),
+            ChannelAnswer::Words(None) | ChannelAnswer::Largest(None) => write!(f, "none"),
         }
     }
 }

@@ -11,6 +11,7 @@ use roster::{Entry, PlainRoster, Roster};
 use std::io;
 use storage::Storage;
 use story::STORY;
+use text::Numbered;
 
 // Four workers (replicas), 64 cells each in three tables, 128 message places, and a roster of 32 entries.
 const WORKERS: usize = 4;
@@ -30,8 +31,9 @@ fn tell<R: Roster<Entry<StoredPackLine>>>(
 ) -> io::Result<()> {
     let steps = story.lines().filter_map(|line| line.split_once('|'));
     for (number, (command, what)) in (1u32..).zip(steps) {
-        let reply = run_line(group, roster, command.as_bytes()).numbered(number);
-        println!(rt; "{reply}: {what} ({command})")?;
+        let answer = run_line(group, roster, command.as_bytes());
+        let shown = Numbered { number, answer };
+        println!(rt; "{shown}: {what} ({command})")?;
     }
     Ok(())
 }

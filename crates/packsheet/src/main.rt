@@ -5,14 +5,14 @@ use input::read_input;
 use pack::PackSheet;
 use packtext::{Summary, apply_text};
 use std::io;
-use text::Lines;
+use text::{Lines, Numbered};
 
 fn main(rt: HostRuntime) -> io::Result<()> {
     let bytes = read_input(rt.alloc(), rt.stdin())?;
     let mut sheet = PackSheet::new();
     for (number, line) in (1u32..).zip(Lines::new(bytes.as_slice())) {
         let answer = apply_text(&mut sheet, line);
-        rt.println(answer.numbered(number))?;
+        rt.println(Numbered { number, answer })?;
     }
     rt.println(Summary::from(&sheet))
 }

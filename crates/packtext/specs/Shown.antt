@@ -3,20 +3,19 @@
 -- cut x              a charge or a time rounded down to a whole number
 -- figures_of s       what is shown of the sheet s
 -- sheet_after s bs   the sheet s after the line bs: a bad line leaves it
--- answer_of s bs     what is answered to the line bs
+-- answer_of s bs     what is answered to the line bs, or which of its fields is bad
 -- BookGrows          where s is the sheet of lines xs, s' is the sheet of xs and then the pack line that bs writes, if it writes one
 -- summary_of s       what is shown of the whole sheet s
--- item_text a        the bytes that are written of the answer a, without a number
 -- figures_text, answer_text, summary_text, sheet_text: the bytes that are written
-use Rattle.std.specs.Prelude.{◌≡◌, ℕ, cond, List, ◌++◌, Some, None, Ok, Err, codes, decimal, Option, Float}
+use Rattle.std.specs.Prelude.{◌≡◌, ℕ, cond, List, ◌++◌, Some, None, Ok, Err, codes, decimal, Option, Result, Float}
 use Rattle.std.specs.Float.Ieee.{to_unsigned}
 use Rattle.pack.specs.Sheets.{fit_for, applied, sheet_of, remaining_of}
 use Rattle.pack.specs.declared.line.PackLine.{PackLine}
 use Rattle.pack.specs.declared.sheet.PackSheet.{PackSheet}
-use Rattle.text.specs.Shown.{bad_text}
+use Rattle.text.specs.declared.fields.BadField.{BadField}
 use Rattle.packtext.specs.Written.{pack_line_of, good_lines}
 use Rattle.packtext.specs.declared.show.Answer.{Answer}
-use Rattle.packtext.specs.declared.show.Answer.TheVariants.{Fit, Unfit, Bad}
+use Rattle.packtext.specs.declared.show.Answer.TheVariants.{Fit, Unfit}
 use Rattle.packtext.specs.declared.show.Figures.{Figures}
 use Rattle.packtext.specs.declared.show.Summary.{Summary}
 
@@ -36,8 +35,8 @@ sheet_after s bs = elim (pack_line_of bs) [ Err e ↦ s | Ok l ↦ applied s l ]
 abbrev pub done_with : PackSheet → PackLine → Answer
 done_with s l = cond (fit_for s l) (Fit (figures_of (applied s l))) (Unfit (figures_of (applied s l)))
 
-abbrev pub answer_of : PackSheet → List ℕ → Answer
-answer_of s bs = elim (pack_line_of bs) [ Err e ↦ Bad e | Ok l ↦ done_with s l ]
+abbrev pub answer_of : PackSheet → List ℕ → Result Answer BadField
+answer_of s bs = elim (pack_line_of bs) [ Err e ↦ Err e | Ok l ↦ Ok (done_with s l) ]
 
 abbrev pub BookGrows : PackSheet → List ℕ → PackSheet → Type 0
 BookGrows s bs s' = (xs : List PackLine) → s ≡ sheet_of xs → s' ≡ sheet_of (xs ++ good_lines bs)
@@ -50,15 +49,10 @@ time_text (Some t) = decimal t
 abbrev pub figures_text : Figures → List ℕ
 figures_text f = decimal f.charge ++ (codes " " ++ time_text f.remaining)
 
--- `fit CHARGE TIME`, `unfit CHARGE TIME` or `bad PLACE`
-abbrev pub item_text : Answer → List ℕ
-item_text (Fit f) = codes "fit " ++ figures_text f
-item_text (Unfit f) = codes "unfit " ++ figures_text f
-item_text (Bad e) = bad_text e
-
--- `NUMBER fit CHARGE TIME`, `NUMBER unfit CHARGE TIME` or `NUMBER bad PLACE`
-abbrev pub answer_text : ℕ → Answer → List ℕ
-answer_text n a = decimal n ++ (codes " " ++ item_text a)
+-- `fit CHARGE TIME` or `unfit CHARGE TIME`
+abbrev pub answer_text : Answer → List ℕ
+answer_text (Fit f) = codes "fit " ++ figures_text f
+answer_text (Unfit f) = codes "unfit " ++ figures_text f
 
 abbrev pub summary_of : PackSheet → Summary
 summary_of s = record { figures = figures_of s; fit = s.fit; unfit = s.unfit }

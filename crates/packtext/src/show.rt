@@ -1,13 +1,13 @@
 // Working on a sheet by lines of text, and what is shown of it.
 ghost use Rattle.std.specs.Prelude.{◌≡◌, Some};
-ghost use Rattle.packtext.specs.Shown.{figures_of, sheet_after, answer_of, done_with, BookGrows, summary_of, figures_text, item_text, answer_text, summary_text, sheet_text};
+ghost use Rattle.packtext.specs.Shown.{figures_of, sheet_after, answer_of, done_with, BookGrows, summary_of, figures_text, answer_text, summary_text, sheet_text};
 ghost use Rattle.pack.specs.Sheets.{applied};
 
 use crate::read::pack_line;
 use pack::{PackLine, PackSheet};
 use std::fmt;
 use std::num::saturating_f64_to_u64;
-use text::{BadField, Numbered};
+use text::BadField;
 
 // What is shown of a sheet: its charge in milliampere-seconds and its remaining seconds, if there
 // are any, both rounded down. It is printed as `CHARGE TIME`, with `-` for no time.
@@ -17,13 +17,12 @@ pub struct Figures {
     pub remaining: Option<u64>,
 }
 
-// What was done with a line of text: a pack line that was fit or unfit, with the sheet after it, or
-// the field that is bad. It is printed as `fit CHARGE TIME`, `unfit CHARGE TIME` or `bad PLACE`.
+// What was done with a pack line, which was fit or unfit, and the sheet after it. It is printed as
+// `fit CHARGE TIME` or `unfit CHARGE TIME`.
 #[derive(Clone, Copy, PartialEq, Eq, Debug)]
 pub enum Answer {
     Fit(Figures),
     Unfit(Figures),
-    Bad(BadField),
 }
 
 // What is shown of a whole sheet: its figures, and how many of its lines were fit and unfit. It is
@@ -80,25 +79,12 @@ fn apply_line(sheet: &mut PackSheet, line: PackLine) -> Answer
 }
 
 // Works on by a line of text, and says what was done. A bad line leaves the sheet.
-pub fn apply_text(sheet: &mut PackSheet, line: &[u8]) -> Answer
+pub fn apply_text(sheet: &mut PackSheet, line: &[u8]) -> Result<Answer, BadField>
     ensures value { result ≡ answer_of sheet.old line.now }
     ensures after { sheet.new ≡ sheet_after sheet.old line.now }
     ensures grows { BookGrows sheet.old line.now sheet.new }
 {
-    match pack_line(line) {
-        Ok(read) => apply_line(sheet, read),
-        Err(bad) => Answer::Bad(bad),
-    }
-}
-
-impl Answer {
-    // The line of output for the line of input with this number.
-    pub fn numbered(self, number: u32) -> Numbered<Answer>
-        ensures value { result ≡ record { number = number; item = self } }
-        ensures text { ⟦<Numbered<Answer> as fmt::Display>⟧.output result ≡ Some (answer_text number self) }
-    {
-        Numbered { number, item: self }
-    }
+    Ok(apply_line(sheet, pack_line(line)?))
 }
 
 impl fmt::Display for Figures {
@@ -114,13 +100,12 @@ impl fmt::Display for Figures {
 }
 
 impl fmt::Display for Answer {
-    ghost output = { λ answer. Some (item_text answer) };
+    ghost output = { λ answer. Some (answer_text answer) };
 
     fn fmt<W: fmt::Write>(&self, f: &mut fmt::Formatter<W>) -> fmt::Result {
         match self {
             Answer::Fit(figures) => write!(f, "fit {figures}"),
             Answer::Unfit(figures) => write!(f, "unfit {figures}"),
-            Answer::Bad(bad) => write!(f, "{bad}"),
         }
     }
 }

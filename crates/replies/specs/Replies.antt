@@ -5,7 +5,7 @@
 -- reply_to g c       what is answered to the command c; a sheet goes to the last line with none missing before it
 -- store_after g c    the group and its roster after the command c: a question changes nothing
 -- history_after      the history of a run after the command c
--- reply_of g bs      what is answered to the line bs
+-- reply_of g bs      what is answered to the line bs, or which of its fields is bad
 -- store_on g bs      the group and its roster after the line bs: a bad line changes nothing
 -- history_on         the history of a run after the line bs
 -- LineGoesOn         from whatever run led to the store g, the line bs leads on to g', where all promises hold
@@ -23,11 +23,12 @@ use Rattle.protocol.specs.Store.{Store, step_after, step_answer}
 use Rattle.books.specs.declared.fault.SheetRefusal.{SheetRefusal}
 use Rattle.books.specs.Faults.{sheet_number, sheet_layer}
 use Rattle.books.specs.Sheets.{held_to, pack_sheet_to}
+use Rattle.text.specs.declared.fields.BadField.{BadField}
 use Rattle.commands.specs.declared.command.Command.{Command}
 use Rattle.commands.specs.declared.command.Command.TheVariants as Commands
 use Rattle.commands.specs.Commands.{command_of}
 use Rattle.replies.specs.declared.run.Reply.{Reply}
-use Rattle.replies.specs.declared.run.Reply.TheVariants.{Done, Held, Refused, Sheet, Bad}
+use Rattle.replies.specs.declared.run.Reply.TheVariants.{Done, Held, Refused, Sheet}
 
 abbrev pub step_reply : Result Answer Refusal → Reply
 step_reply (Ok Answers.Done) = Done
@@ -53,8 +54,8 @@ abbrev pub history_after : Store StoredPackLine → History StoredPackLine → C
 history_after g h (Commands.Do s) = grown s g h
 history_after g h (Commands.Sheet w) = h
 
-abbrev pub reply_of : Store StoredPackLine → List ℕ → Reply
-reply_of g bs = elim (command_of bs) [ Err e ↦ Bad e | Ok c ↦ reply_to g c ]
+abbrev pub reply_of : Store StoredPackLine → List ℕ → Result Reply BadField
+reply_of g bs = elim (command_of bs) [ Err e ↦ Err e | Ok c ↦ Ok (reply_to g c) ]
 
 abbrev pub store_on : Store StoredPackLine → List ℕ → Store StoredPackLine
 store_on g bs = elim (command_of bs) [ Err e ↦ g | Ok c ↦ store_after g c ]

@@ -15,8 +15,7 @@ use protocol::{Answer, Layer, Step};
 use roster::{Entry, Roster};
 use text::BadField;
 
-// What is answered to a line of a script. It is printed as `ok`, `held`, `no FAULT LAYER`, `sheet LINES CHARGE TIME`
-// or `bad PLACE`.
+// What is answered to a command. It is printed as `ok`, `held`, `no FAULT LAYER` or `sheet LINES CHARGE TIME`.
 #[derive(Clone, Copy, PartialEq, Eq, Debug)]
 pub enum Reply {
     // the step was done
@@ -27,8 +26,6 @@ pub enum Reply {
     Refused(u32, Layer),
     // the sheet to this line
     Sheet(usize, Figures),
-    // the line is no command
-    Bad(BadField),
 }
 
 // Does a step.
@@ -78,13 +75,11 @@ pub fn run_line<R: Roster<Entry<StoredPackLine>>>(
     group: &mut Group<'_, StoredPackLine>,
     roster: &mut R,
     line: &[u8],
-) -> Reply
+) -> Result<Reply, BadField>
     ensures value { result ≡ reply_of (store_of group.old (R.model roster.old)) line.now }
     ensures after { store_of group.new (R.model roster.new) ≡ store_on (store_of group.old (R.model roster.old)) line.now }
     ensures promise { LineGoesOn line.now (store_of group.old (R.model roster.old)) (store_of group.new (R.model roster.new)) }
 {
-    match read_command(line) {
-        Ok(command) => run_command(group, roster, &command),
-        Err(bad) => Reply::Bad(bad),
-    }
+    let command = read_command(line)?;
+    Ok(run_command(group, roster, &command))
 }

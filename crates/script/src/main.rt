@@ -9,7 +9,7 @@ use replies::run_line;
 use roster::{Entry, PlainRoster, Roster};
 use std::io;
 use storage::Storage;
-use text::Lines;
+use text::{Lines, Numbered};
 
 // The message places of the group.
 const MESSAGES: usize = 128;
@@ -32,8 +32,8 @@ fn play_lines<R: Roster<Entry<StoredPackLine>>>(
     let mut storage = Storage::new(rt.alloc(), workers, cells, MESSAGES, unsent)?;
     let mut group = storage.group();
     for (number, line) in (2u32..).zip(lines) {
-        let reply = run_line(&mut group, roster, line);
-        rt.println(reply.numbered(number))?;
+        let answer = run_line(&mut group, roster, line);
+        rt.println(Numbered { number, answer })?;
     }
     Ok(())
 }

@@ -1,14 +1,19 @@
 -- What is written of a bad field and of a numbered line of output. Assumes nothing.
 --
--- bad_text e        a bad field
--- numbered_text n o the line with the number n that has the text o
-use Rattle.std.specs.Prelude.{ℕ, List, ◌++◌, codes, decimal, Option}
+-- bad_text e           a bad field
+-- answered_text s r    the answer r, of which s says what is written; a bad field where there is none
+-- numbered_text n o    the line with the number n that has the text o
+use Rattle.std.specs.Prelude.{ℕ, List, ◌++◌, Some, Ok, Err, codes, decimal, Option, Result}
 use Rattle.std.specs.Option.{option_map}
 use Rattle.text.specs.declared.fields.BadField.{BadField}
 
 -- `bad PLACE`
 abbrev pub bad_text : BadField → List ℕ
 bad_text e = codes "bad " ++ decimal e.place
+
+abbrev pub answered_text : {A : Type 0} → (A → Option (List ℕ)) → Result A BadField → Option (List ℕ)
+answered_text shown (Ok a) = shown a
+answered_text shown (Err e) = Some (bad_text e)
 
 -- `NUMBER TEXT`
 abbrev pub numbered_text : ℕ → Option (List ℕ) → Option (List ℕ)

@@ -3,8 +3,8 @@ use Rattle.std.proofs.Common.{rules}
 use Rattle.replies.proofs.Leading.{line_goes_on}
 use Rattle.replies.proofs.run.run_line.Goals as goal
 
-pub returns-in-Ok-clause-promise : goal.returns-in-Ok-clause-promise
-returns-in-Ok-clause-promise g c = line_goes_on c.args.line.now _ _ (search rules)
+pub returns-clause-promise : goal.returns-clause-promise
+returns-clause-promise g c = line_goes_on c.args.line.now _ _ (search rules)
 
-pub returns-in-Err-clause-promise : goal.returns-in-Err-clause-promise
-returns-in-Err-clause-promise g c = line_goes_on c.args.line.now _ _ (search rules)
+pub returns-in_err-command-clause-promise : goal.returns-in_err-command-clause-promise
+returns-in_err-command-clause-promise g c = line_goes_on c.args.line.now _ _ (search rules)

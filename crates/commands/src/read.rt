@@ -57,7 +57,7 @@ fn take_propose(fields: &mut Fields) -> Result<Command, BadField>
     let w = fields.number()?;
     let k = fields.number()?;
     let line = take_pack_line(fields)?;
-    Ok(Command::Do(Step::Propose(w as usize, k as usize, line.stored())))
+    Ok(Command::Do(Step::Propose(w as usize, k as usize, line.into())))
 }
 
 // A command of two numbers or a Propose; any other letter is bad, at its place.

@@ -22,7 +22,7 @@ fn worked_out(
     let mut sheet = PackSheet::new();
     for i in 0..to {
         match group.line(worker, i + 1) {
-            Some(line) => sheet.apply(line.restored()),
+            Some(line) => sheet.apply(line.into()),
             None => return Err(SheetFault::NotHeld),
         }
     }

@@ -35,7 +35,7 @@ fn take_propose(fields: &mut Fields) -> Result<Step<StoredPackLine>, BadField>
     let w = fields.number()?;
     let k = fields.number()?;
     let line = take_pack_line(fields)?;
-    Ok(Step::Propose(w as usize, k as usize, line.stored()))
+    Ok(Step::Propose(w as usize, k as usize, line.into()))
 }
 
 // Takes the other fields of the step with this letter: `F a`, `R w`, `L w`, `P w`, `X m`, `D m w`,

@@ -1,37 +1,28 @@
--- Laws of lines worked on one after another: two lists join, an unfit line is only counted, and the rest state is what the last fit line left.
-use Rattle.std.proofs.Common.{◌≡◌, true, false, cond, List, [], ◌∷◌, ◌++◌, Option, sym, refl, ap, ◌∙◌, subst}
+-- The rest state of a sheet is what the last fit line left.
+use Rattle.std.proofs.Common.{◌≡◌, true, false, List, [], ◌∷◌, ◌++◌, Option, refl, ap, ◌∙◌, subst, arith}
+use Rattle.std.proofs.lemmas.List.Sums.{fold-append}
 use lib.Ieee.{Float}
 use Rattle.pack.specs.declared.line.PackLine.{PackLine}
 use Rattle.pack.specs.declared.sheet.PackSheet.{PackSheet}
-use Rattle.pack.specs.Sheets.{fit_for, worked, refused_line, applied, worked_on, sheet_of, empty_sheet, time_at, remaining_of}
-use Rattle.pack.specs.Laws.{OnlyCounted, UnfitOnlyCounted, LastFit, TimeByLastFit, SheetsJoin}
-
-worked_join : (s : PackSheet) (xs ys : List PackLine) → worked_on s (xs ++ ys) ≡ worked_on (worked_on s xs) ys
-worked_join s [] ys = refl
-worked_join s (x ∷ xs) ys = worked_join (applied s x) xs ys
+use Rattle.pack.specs.Sheets.{fit_for, worked, applied, worked_on, sheet_of, empty_sheet, time_at, remaining_of}
+use Rattle.pack.specs.Laws.{LastFit, TimeByLastFit}
 
 joined : (xs ys : List PackLine) → sheet_of (xs ++ ys) ≡ worked_on (sheet_of xs) ys
-joined xs ys = worked_join empty_sheet xs ys
+joined xs ys = fold-append applied empty_sheet xs ys
 
-pub sheets_join : (s s' : PackSheet) (ys : List PackLine) → s' ≡ worked_on s ys → SheetsJoin s ys s'
-sheets_join s s' ys w xs e = w ∙ ap (λ t. worked_on t ys) e ∙ sym (joined xs ys)
+-- what is left of the rest state: what a fit line makes it, and all of it under an unfit one
+fit_state : (s : PackSheet) (l : PackLine) → fit_for s l ≡ true → (applied s l).state ≡ (worked s l).state
+fit_state s l e = grind arith
 
--- what a line does, by whether it is fit
-applied_fit : (s : PackSheet) (l : PackLine) → fit_for s l ≡ true → applied s l ≡ worked s l
-applied_fit s l e = ap (λ b. cond b (worked s l) (refused_line s)) e
-
-applied-unfit : (s : PackSheet) (l : PackLine) → fit_for s l ≡ false → applied s l ≡ refused_line s
-applied-unfit s l e = ap (λ b. cond b (worked s l) (refused_line s)) e
-
-pub unfit_only_counted : (s s' : PackSheet) (l : PackLine) → s' ≡ applied s l → UnfitOnlyCounted s l s'
-unfit_only_counted s s' l w e = subst (OnlyCounted s) (sym (w ∙ applied-unfit s l e)) (record { charge = refl; state = refl; remaining = refl; fit = refl; unfit = refl })
+unfit_state : (s : PackSheet) (l : PackLine) → fit_for s l ≡ false → (applied s l).state ≡ s.state
+unfit_state s l e = grind arith
 
 -- lines none of which is fit leave the rest state
 none_keeps : (s : PackSheet) (ys : List PackLine)
     → ((us : List PackLine) (u : PackLine) (vs : List PackLine) → ys ≡ us ++ (u ∷ vs) → fit_for (worked_on s us) u ≡ false) → (worked_on s ys).state ≡ s.state
 none_keeps s [] h = refl
 none_keeps s (y ∷ ys) h =
-    none_keeps (applied s y) ys (λ us u vs e. h (y ∷ us) u vs (ap (λ zs. y ∷ zs) e)) ∙ ap (λ t. t.state) (applied-unfit s y (h [] y ys refl))
+    none_keeps (applied s y) ys (λ us u vs e. h (y ∷ us) u vs (ap (λ zs. y ∷ zs) e)) ∙ unfit_state s y (h [] y ys refl)
 
 state-after : (ls : List PackLine) (l : PackLine) (f : LastFit ls l) → (sheet_of ls).state ≡ (worked (sheet_of f.before) l).state
 state-after ls l f =
@@ -41,7 +32,7 @@ state-after ls l f =
     ∙ none_keeps (applied s l) f.after
     (λ us u vs e.
     subst (λ t. fit_for t u ≡ false) (joined (f.before ++ (l ∷ [])) us ∙ ap (λ t. worked_on t us) (joined f.before (l ∷ []))) (f.rest us u vs e))
-    ∙ ap (λ t. t.state) (applied_fit s l f.fit)
+    ∙ fit_state s l f.fit
 
 pub time_by_last_fit : (s : PackSheet) (t : Option Float) → t ≡ remaining_of s → TimeByLastFit s t
 time_by_last_fit s t w ls e =

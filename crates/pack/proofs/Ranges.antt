@@ -1,6 +1,7 @@
 -- The charge of every sheet lies from 0 to the largest charge: a product of two floats that are not negative is not negative, and a difference that
 -- is not negative rounds to no more than what it was taken from, since rounding keeps the order.
-use Rattle.std.proofs.Common.{◌≡◌, ℕ, zero, suc, ◌+◌, ◌-◌, ◌*◌, ◌^◌, ◌<◌, ◌≤◌, Bool, true, false, cond, ◌&&◌, ◌||◌, T, eqb, ltb, leb, List, [], ◌∷◌, ℤ, sym, refl, subst, true≢false, le_trans, le_of_eq, mul-le-mul_right, mul_assoc, mul-pos, mul-one, arith, lit≤, eqb→eq, ltb→lt, leb→le}
+use Rattle.std.proofs.Common.{◌≡◌, ℕ, zero, suc, ◌+◌, ◌-◌, ◌*◌, ◌^◌, ◌<◌, ◌≤◌, Bool, true, false, cond, ◌&&◌, ◌||◌, T, eqb, ltb, leb, List, [], ◌∷◌, ℤ, sym, refl, subst, true≢false, le_trans, le_of_eq, mul-le-mul_right, mul_assoc, mul-pos, mul-one, arith, lit≤, leb→le}
+use Rattle.std.proofs.lemmas.Bool.Decides.{nat_tests}
 use lib.Ieee.{Float, Format, nan, inf, fin, binary64, up, down, prec, low, emax, odd, units, round, of_int, lt, le, mul, sub}
 use lib.Ieee.Exact.{HasValue}
 use lib.Ieee.Back.{round_whole}
@@ -44,12 +45,7 @@ round_clear f a c = subst NonNegative (sym (round_is f false a c)) (units_clear 
 
 -- what the comparison of two magnitudes says
 at_most : (a b : ℕ) → T (ltb a b || (eqb a b && true)) → a ≤ b
-at_most a b = go (ltb a b) (eqb a b) (ltb→lt a b) (eqb→eq a b)
-  where
-    go : (x y : Bool) → (T x → a < b) → (T y → a ≡ b) → T (x || (y && true)) → a ≤ b
-    go true y l e t = let h : a < b = l tt in omega arith
-    go false true l e t = let h : a ≡ b = e tt in omega arith
-    go false false l e t = absurd t
+at_most a b t = grind (arith, nat_tests)
 
 below_most : (x : Float) → NonNegative x → T (le x (whole charge_most)) → Sound x
 unfolding of_int le
@@ -70,12 +66,7 @@ above_zero (fin false m e) t = refl
 
 -- a magnitude above 0 is not 0
 not_zero : (a b : ℕ) → 0 < a → T (eqb a b && eqb a 0) → ⊥
-not_zero a b h = go (eqb a b) (eqb a 0) (eqb→eq a 0)
-  where
-    go : (x y : Bool) → (T y → a ≡ 0) → T (x && y) → ⊥
-    go true true e t = let z : a ≡ 0 = e tt in omega arith
-    go true false e t = t
-    go false y e t = t
+not_zero a b h t = grind (arith, nat_tests)
 
 -- at least the least current, at most the largest: a finite number with a clear sign
 current_finite : (x : Float) → T (le (whole current_least) x) → T (le x (whole current_most)) → (m : ℕ) × (e : ℤ) × (x ≡ fin false m e)

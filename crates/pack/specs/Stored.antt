@@ -7,6 +7,8 @@
 -- restored_of p      the line of the stored form p
 -- WorksAlike l l'    every sheet is worked on by l' just as by l
 -- Exact p            the bits of p are those of a number, or the mark
+-- IsStoredForm l p     p is what l is stored as: l comes back from it, and works alike
+-- IsRestoredLine p l   l is the line of p: it is stored as p again, if the bits of p are those of a number, or the mark
 use Rattle.std.specs.Prelude.{◌≡◌, ℕ, false, ◌⊎◌, from_bits, to_bits, Float}
 use Rattle.std.specs.Float.{binary64}
 use Rattle.std.specs.Float.Ieee.{nan_bits}
@@ -47,3 +49,12 @@ abbrev pub Exact : StoredPackLine → Type 0
 Exact (Stored.Begin b) = ExactBits b
 Exact (Stored.Drain b n) = ExactBits b
 Exact (Stored.Idle n) = Unit {0}
+
+pub record IsStoredForm (l : PackLine) (p : StoredPackLine) : Type 0 where
+  pub value : p ≡ stored_of l
+  pub back : restored_of p ≡ l
+  pub alike : WorksAlike l (restored_of p)
+
+pub record IsRestoredLine (p : StoredPackLine) (l : PackLine) : Type 0 where
+  pub value : l ≡ restored_of p
+  pub back : Exact p → stored_of l ≡ p

@@ -6,15 +6,16 @@ ghost use Rattle.pack.specs.Sheets.{empty_sheet, begun, fit_for, drained, worked
 use crate::line::{PackLine, charge_fits, current_fits, seconds_fit};
 
 // What the last fit line left: no fit line yet, a pack at rest, or a drain at a current in milliamperes.
-#[derive(Clone, Copy)]
+#[derive(Clone, Copy, PartialEq, Debug, Default)]
 pub enum RestState {
+    #[default]
     Unbegun,
     AtRest,
     Draining(f64),
 }
 
 // The charge in milliampere-seconds, how many lines were fit and unfit, and the rest state.
-#[derive(Clone, Copy)]
+#[derive(Clone, Copy, PartialEq, Debug, Default)]
 pub struct PackSheet {
     charge: f64,
     fit: u32,
@@ -27,14 +28,12 @@ impl RestState {
     pub fn has_begun(&self) -> bool
         ensures { result ≡ begun self.now }
     {
-        match self {
-            RestState::Unbegun => false,
-            _ => true,
-        }
+        !matches!(self, RestState::Unbegun)
     }
 }
 
 // The charge that a current leaves of `charge` after so many seconds.
+#[tactic(auto, using(crate::proofs::Literals::zero_is))]
 fn drained_charge(charge: f64, current: f64, seconds: u32) -> f64
     ensures { result ≡ drained charge current seconds }
 {
@@ -48,15 +47,11 @@ fn drained_charge(charge: f64, current: f64, seconds: u32) -> f64
 
 impl PackSheet {
     // The sheet of no lines.
+    #[tactic(auto, using(crate::proofs::Literals::zero_is))]
     pub fn new() -> Self
         ensures { result ≡ empty_sheet }
     {
-        PackSheet {
-            charge: 0.0,
-            fit: 0,
-            unfit: 0,
-            state: RestState::Unbegun,
-        }
+        PackSheet::default()
     }
 
     // Whether the line is fit for the sheet as it stands.
@@ -76,29 +71,24 @@ impl PackSheet {
     fn worked(&self, line: PackLine) -> PackSheet
         ensures { result ≡ worked self.now line }
     {
-        let fit = self.fit.saturating_add(1);
-        let unfit = self.unfit;
+        let counted = PackSheet {
+            fit: self.fit.saturating_add(1),
+            ..*self
+        };
         match line {
             PackLine::Begin(charge) => PackSheet {
                 charge,
-                fit,
-                unfit,
                 state: RestState::AtRest,
+                ..counted
             },
-            PackLine::Drain(current, seconds) => {
-                let charge = drained_charge(self.charge, current, seconds);
-                PackSheet {
-                    charge,
-                    fit,
-                    unfit,
-                    state: RestState::Draining(current),
-                }
-            }
+            PackLine::Drain(current, seconds) => PackSheet {
+                charge: drained_charge(self.charge, current, seconds),
+                state: RestState::Draining(current),
+                ..counted
+            },
             PackLine::Idle(_) => PackSheet {
-                charge: self.charge,
-                fit,
-                unfit,
                 state: RestState::AtRest,
+                ..counted
             },
         }
     }

@@ -1,6 +1,5 @@
 // A pack line as whole numbers, as it lies in cells, messages and roster tables.
-ghost use Rattle.std.specs.Prelude.{◌≡◌, T};
-ghost use Rattle.pack.specs.Stored.{stored_float, restored_float, stored_of, restored_of, WorksAlike, ExactBits, Exact};
+ghost use Rattle.pack.specs.Stored.{IsStoredForm, IsRestoredLine};
 
 use crate::line::PackLine;
 use std::num::{f64_from_bits_with_nan, f64_to_bits_with_nan};
@@ -17,55 +16,36 @@ pub enum StoredPackLine {
     Idle(u32),
 }
 
-// The bits of a float, or the mark.
-fn bits_of(float: f64) -> u64
-    ensures value { result ≡ stored_float float }
-    ensures back { restored_float result ≡ float }
-{
-    f64_to_bits_with_nan(float)
-}
+impl From<PackLine> for StoredPackLine {
+    ghost from_gives = { IsStoredForm };
 
-// The float of these bits, or one that is not a number.
-fn float_of(bits: u64) -> f64
-    ensures value { result ≡ restored_float bits }
-    ensures back { ExactBits bits → stored_float result ≡ bits }
-{
-    f64_from_bits_with_nan(bits)
-}
-
-impl PackLine {
     // The line as whole numbers.
-    pub fn stored(self) -> StoredPackLine
-        ensures value { result ≡ stored_of self }
-        ensures back { restored_of result ≡ self }
-        ensures alike { WorksAlike self (restored_of result) }
-    {
-        match self {
-            PackLine::Begin(charge) => StoredPackLine::Begin(bits_of(charge)),
-            PackLine::Drain(current, seconds) => StoredPackLine::Drain(bits_of(current), seconds),
-            PackLine::Idle(seconds) => StoredPackLine::Idle(seconds),
+    #[tactic(auto, using(crate::proofs::Bits::float_back))]
+    fn from(line: PackLine) -> Self {
+        match line {
+            PackLine::Begin(charge) => Self::Begin(f64_to_bits_with_nan(charge)),
+            PackLine::Drain(current, seconds) => Self::Drain(
+                f64_to_bits_with_nan(current),
+                seconds,
+            ),
+            PackLine::Idle(seconds) => Self::Idle(seconds),
         }
     }
 }
 
-impl StoredPackLine {
-    // The line of these numbers.
-    pub fn restored(self) -> PackLine
-        ensures value { result ≡ restored_of self }
-        ensures back { Exact self → stored_of result ≡ self }
-    {
-        match self {
-            StoredPackLine::Begin(bits) => PackLine::Begin(float_of(bits)),
-            StoredPackLine::Drain(bits, seconds) => PackLine::Drain(float_of(bits), seconds),
-            StoredPackLine::Idle(seconds) => PackLine::Idle(seconds),
-        }
-    }
+impl From<StoredPackLine> for PackLine {
+    ghost from_gives = { IsRestoredLine };
 
-    // Whether both are the same line: yes exactly when all their numbers are equal.
-    pub fn is_same(&self, other: &StoredPackLine) -> bool
-        ensures equal { T result → self.now ≡ other.now }
-        ensures all { self.now ≡ other.now → T result }
-    {
-        self == other
+    // The line of these numbers.
+    #[tactic(auto, using(crate::proofs::Bits::bits_back))]
+    fn from(stored: StoredPackLine) -> Self {
+        match stored {
+            StoredPackLine::Begin(bits) => Self::Begin(f64_from_bits_with_nan(bits)),
+            StoredPackLine::Drain(bits, seconds) => Self::Drain(
+                f64_from_bits_with_nan(bits),
+                seconds,
+            ),
+            StoredPackLine::Idle(seconds) => Self::Idle(seconds),
+        }
     }
 }

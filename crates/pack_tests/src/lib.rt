@@ -12,10 +12,9 @@ mod tests {
 
     // Each line is fit, or each is unfit, for a sheet that a fit Begin has opened.
     fn check_begun(rt: &impl Abort, lines: &[PackLine], fit: bool) {
-        let mut sheet = PackSheet::new();
-        sheet.apply(PackLine::Begin(1000.0));
-        for line in lines {
-            assert!(rt; sheet.fits(*line) == fit);
+        let sheet = PackSheet::of(&[PackLine::Begin(1000.0)]);
+        for &line in lines {
+            assert_eq!(rt; sheet.fits(line), fit, "{line:?}");
         }
     }
 
@@ -82,8 +81,8 @@ mod tests {
     // Each line has this stored form, and comes back from it.
     fn check_stored(rt: &impl Abort, pairs: &[(PackLine, StoredPackLine)]) {
         for (line, stored) in pairs {
-            assert_eq!(rt; line.stored(), *stored);
-            assert_eq!(rt; stored.restored().stored(), *stored);
+            assert_eq!(rt; StoredPackLine::from(*line), *stored);
+            assert_eq!(rt; StoredPackLine::from(PackLine::from(*stored)), *stored);
         }
     }
 
@@ -129,9 +128,9 @@ mod tests {
 
     #[test]
     fn stored_lines_differ(rt: HostRuntime) {
-        let zero = PackLine::Begin(0.0).stored();
-        assert!(rt; !zero.is_same(&PackLine::Begin(-0.0).stored()));
-        assert!(rt; !zero.is_same(&StoredPackLine::Drain(0, 0)));
-        assert!(rt; zero.is_same(&StoredPackLine::Begin(0)));
+        let zero = StoredPackLine::from(PackLine::Begin(0.0));
+        assert_ne!(rt; zero, StoredPackLine::from(PackLine::Begin(-0.0)));
+        assert_ne!(rt; zero, StoredPackLine::Drain(0, 0));
+        assert_eq!(rt; zero, StoredPackLine::Begin(0));
     }
 }

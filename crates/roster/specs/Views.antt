@@ -1,11 +1,11 @@
 -- What a plain roster stands for. Assumes nothing.
 --
---   capacity_in t  the capacity of a roster in the table t: its length, within the limit of all rosters
---   empty_in t     an empty roster in the table t
---   plain_model s  always open; its list is the used part of the table
---   table_of s     the roster's table
---   table_after r s e   the table after an append of e that was answered r: e at the first place past the list, or as before
---   beyond s       what lies in the table past the capacity, which is none of the roster's
+--   capacity_in t       the capacity of a roster in the table t: its length, within the limit of all rosters
+--   empty_in t          an empty roster in the table t
+--   plain_model s       always open; its list is the used part of the table
+--   table_of s          the roster's table
+--   table_after r s e   the table of s after an append of e that was answered r: e at the place past the list, or as before
+--   beyond s            what lies in the table past the capacity, which is none of the roster's
 use Rattle.std.specs.Prelude.{ℕ, min, List, [], length, take, drop, Ok, Err, Result, slice_set}
 use Rattle.roster.specs.declared.fault.RosterFault.{RosterFault}
 use Rattle.roster.specs.declared.plain.PlainRoster.{PlainRoster}

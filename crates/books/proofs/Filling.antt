@@ -1,31 +1,16 @@
 -- A key table that is filled line by line holds the sheet of the lines so far, where they are all held.
-use Rattle.std.proofs.Common.{◌≡◌, ℕ, ◌+◌, Bool, List, [], ◌∷◌, ◌++◌, length, drop, Some, None, Option, sym, refl, ap, ◌∙◌, arith}
+use Rattle.std.proofs.Common.{◌≡◌, ℕ, ◌+◌, Bool, List, [], ◌∷◌, ◌++◌, Some, None, Option, sym, refl, ap, ◌∙◌, arith}
+use Rattle.std.proofs.lemmas.List.Sums.{fold-append}
 use Rattle.protocol.specs.Runs.{holds, joined, book_to}
 use Rattle.protocol.specs.Store.{Store}
 use Rattle.keylines.specs.declared.lines.ChannelLine.{ChannelLine}
-use Rattle.keylines.specs.Limits.{capacity_of}
 use Rattle.keylines.specs.Sheets.{Sheet, applied, sheet_of, empty_sheet}
-use Rattle.keylines.proofs.Histories.{worked-append}
-use Rattle.keys.specs.declared.table.KeyTable.{KeyTable}
-use Rattle.keys.specs.Views.{SameSlice}
 use Rattle.books.proofs.Gaps.{one_more}
-
--- a table on the same slice as one before it, which lies on the same slice as the first
-pub slice_on : {K : Type 0} (s t u : KeyTable K) → SameSlice s t → SameSlice t u → SameSlice s u
-slice_on s t u a b = record { size = b.size ∙ a.size; beyond = b.beyond ∙ a.beyond; named = b.named ∙ a.named }
-
--- a table whose slice holds what it held
-pub slice_same : {K : Type 0} (s t : KeyTable K) → t.pairs.now ≡ s.pairs.now → t.pairs.ghost_name ≡ s.pairs.ghost_name → SameSlice s t
-slice_same s t e n = record { size = ap length e; beyond = ap (λ xs. drop (capacity_of (length xs)) xs) e; named = n }
 
 module _ {K : Type 0} (alike : K → K → Bool) (c : ℕ) where
   -- the sheet of the lines 1 to i, if they are all held
   abbrev pub Filled : Store (ChannelLine K) → ℕ → ℕ → Sheet K → Type 0
   Filled g w i s = (ls : List (ChannelLine K)) → book_to g w i ≡ Some ls → s ≡ sheet_of alike c ls
-
-  -- no line is applied yet
-  pub fill_start : (g : Store (ChannelLine K)) (w : ℕ) (s : Sheet K) → s ≡ empty_sheet → Filled g w 0 s
-  fill_start g w s e ls f = let same : [] ≡ ls = cc in e ∙ ap (sheet_of alike c) same
 
   joined_fill : (o : Option (List (ChannelLine K))) (p : Option (ChannelLine K)) (s t : Sheet K) (l : ChannelLine K) → ((ls : List (ChannelLine K)) → o ≡ Some ls → s ≡ sheet_of alike c ls) → Some l ≡ p → t ≡ applied alike c s l
       → (ls : List (ChannelLine K)) → joined o p ≡ Some ls → t ≡ sheet_of alike c ls
@@ -35,7 +20,7 @@ module _ {K : Type 0} (alike : K → K → Bool) (c : ℕ) where
       let line : l ≡ a = cc in
       let all : bs ++ (a ∷ []) ≡ ls = cc in
       step ∙ ap (λ x. applied alike c x l) (before bs refl) ∙ ap (applied alike c (sheet_of alike c bs)) line
-      ∙ sym (worked-append alike c empty_sheet bs (a ∷ [])) ∙ ap (sheet_of alike c) all
+      ∙ sym (fold-append (applied alike c) empty_sheet bs (a ∷ [])) ∙ ap (sheet_of alike c) all
 
   -- one line more is held, and applied to a table of the same capacity
   pub fill_more : (g : Store (ChannelLine K)) (w i d : ℕ) (s t : Sheet K) (l : ChannelLine K) → Filled g w i s → Some l ≡ holds g w (i + 1) → d ≡ c → t ≡ applied alike d s l → Filled g w (i + 1) t

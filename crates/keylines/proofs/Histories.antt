@@ -1,40 +1,14 @@
 -- Laws of a sheet over its lines: a key's words are those of its newest fit put, by induction over the lines from any sheet.
-use Rattle.std.proofs.Common.{◌≡◌, ℕ, ◌+◌, ◌<◌, ◌≤◌, Bool, true, not, ◌⊎◌, List, [], ◌∷◌, ◌++◌, length, get_or, take, Some, None, Option, sym, refl, ap, ◌∙◌, subst, subst₂, inl, inr, arith}
-use Rattle.std.proofs.lemmas.List.{take_all}
-use Rattle.std.proofs.lemmas.List.Sums.{fold_more}
+use Rattle.std.proofs.Common.{◌≡◌, ℕ, Bool, true, ◌⊎◌, List, [], ◌∷◌, ◌++◌, Some, None, Option, sym, refl, ap, ◌∙◌, subst, subst₂, inl, inr, arith}
+use Rattle.std.proofs.lemmas.List.Sums.{fold-append}
 use Rattle.std.proofs.lemmas.Bool.{cases_Bool, both_ways}
 use Rattle.keylines.specs.declared.lines.Pair.{Pair}
 use Rattle.keylines.specs.declared.lines.ChannelLine.{ChannelLine}
 use Rattle.keylines.specs.declared.lines.ChannelLine.TheVariants.{Put, Erase}
 use Rattle.keylines.specs.Pairs.{room_for, words_of}
-use Rattle.keylines.specs.Sheets.{Sheet, fits_line, line_pairs, counted, applied, worked_on, sheet_of, empty_sheet}
+use Rattle.keylines.specs.Sheets.{Sheet, fits_line, line_pairs, applied, worked_on, sheet_of, empty_sheet}
 use Rattle.keylines.specs.Laws.{DistinctKeys, NewestPut, Lawful}
 use Rattle.keylines.proofs.Words.{same_or_not, words-present, held_room, put_words, put_others, put_unfit, put_distinct, erase_words, erase_others, erase_distinct}
-
-module _ {K : Type 0} (alike : K → K → Bool) (c : ℕ) where
-  pub worked-append : (s : Sheet K) (xs ys : List (ChannelLine K)) → worked_on alike c s (xs ++ ys) ≡ worked_on alike c (worked_on alike c s xs) ys
-  worked-append s [] ys = refl
-  worked-append s (x ∷ xs) ys = worked-append (applied alike c s x) xs ys
-
-  -- pairs and counts that are those after a line
-  pub line_applied : (s : Sheet K) (l : ChannelLine K) (ps : List (Pair K)) (b : Bool) → b ≡ fits_line alike c s.pairs l → ps ≡ line_pairs alike c s.pairs l
-      → record { pairs = ps; fit = counted b s.fit; unfit = counted (not b) s.unfit } ≡ applied alike c s l
-  line_applied s l ps b e f =
-      ap (λ qs. record { pairs = qs; fit = counted b s.fit; unfit = counted (not b) s.unfit }) f
-      ∙ ap (λ x. record { pairs = line_pairs alike c s.pairs l; fit = counted x s.fit; unfit = counted (not x) s.unfit }) e
-
-  -- one line more of a list
-  pub next_line : (d i : ℕ) (s t u : Sheet K) (l : ChannelLine K) (ls : List (ChannelLine K)) → d ≡ c → t ≡ worked_on alike c s (take i ls) → u ≡ applied alike d t l → i < length ls → l ≡ get_or ls i l → u ≡ worked_on alike c s (take (i + 1) ls)
-  next_line d i s t u l ls e f g h is =
-      g
-      ∙ ap (λ m. applied alike m t l) e
-      ∙ ap (λ x. applied alike c x l) f
-      ∙ ap (applied alike c (worked_on alike c s (take i ls))) is
-      ∙ sym (fold_more (applied alike c) s ls i l h)
-
-  -- the whole list
-  pub all_lines : (i : ℕ) (s t : Sheet K) (ls : List (ChannelLine K)) → length ls ≤ i → t ≡ worked_on alike c s (take i ls) → t ≡ worked_on alike c s ls
-  all_lines i s t ls h e = e ∙ ap (worked_on alike c s) (take_all i ls h)
 
 -- lines from a sheet on that neither erase a key nor put it and are fit
 record Quiet {K : Type 0} (alike : K → K → Bool) (c : ℕ) (k : K) (s : Sheet K) (ls : List (ChannelLine K)) : Type 0 where
@@ -149,12 +123,12 @@ module _ {K : Type 0} (alike : K → K → Bool) (exact : (x y : K) → alike x 
         let at = sheet_of alike c p.before in
         let d : DistinctKeys at.pairs = worked-distinct empty_sheet p.before tt in
         ap (λ t. words_of alike k (sheet_of alike c t).pairs) p.split
-        ∙ ap (λ s. words_of alike k s.pairs) (worked-append alike c empty_sheet p.before (Put k w ∷ p.after))
+        ∙ ap (λ s. words_of alike k s.pairs) (fold-append (applied alike c) empty_sheet p.before (Put k w ∷ p.after))
         ∙ stays k w (applied alike c at (Put k w)) p.after (line_distinct at.pairs (Put k w) d) (put_words alike exact itself k w c at.pairs p.fits)
         (record {
           kept = p.kept;
           newest = λ mid rest v e f. p.newest mid rest v e
-              (subst (λ s. fits_line alike c s.pairs (Put k v) ≡ true) (sym (worked-append alike c empty_sheet p.before (Put k w ∷ mid))) f);
+              (subst (λ s. fits_line alike c s.pairs (Put k v) ≡ true) (sym (fold-append (applied alike c) empty_sheet p.before (Put k w ∷ mid))) f);
         })
 
     newest_put : (k : K) (w : List ℕ) → words_of alike k (sheet_of alike c lines).pairs ≡ Some w → NewestPut alike c lines k w
@@ -168,7 +142,7 @@ module _ {K : Type 0} (alike : K → K → Bool) (exact : (x y : K) → alike x 
             fits = o.fits;
             kept = o.quiet.kept;
             newest = λ mid rest v f g. o.quiet.newest mid rest v f
-                (subst (λ s. fits_line alike c s.pairs (Put k v) ≡ true) (worked-append alike c empty_sheet o.before (Put k w ∷ mid)) g);
+                (subst (λ s. fits_line alike c s.pairs (Put k v) ≡ true) (fold-append (applied alike c) empty_sheet o.before (Put k w ∷ mid)) g);
           }
         ]
 
@@ -189,4 +163,4 @@ module _ {K : Type 0} (alike : K → K → Bool) (exact : (x y : K) → alike x 
   -- the sheet of some lines, worked on with more
   pub lawful_on : (before lines : List (ChannelLine K)) (s t : Sheet K) → s ≡ sheet_of alike c before → t ≡ worked_on alike c s lines → Lawful alike c (before ++ lines) t
   lawful_on before lines s t e f =
-      lawful (before ++ lines) t (f ∙ ap (λ x. worked_on alike c x lines) e ∙ sym (worked-append alike c empty_sheet before lines))
+      lawful (before ++ lines) t (f ∙ ap (λ x. worked_on alike c x lines) e ∙ sym (fold-append (applied alike c) empty_sheet before lines))

@@ -1,11 +1,18 @@
 -- A put and an erase keep the keys distinct and change the words of their own key alone, by induction over the pairs.
-use Rattle.std.proofs.Common.{◌≡◌, ℕ, suc, ◌<◌, Bool, true, false, cond, ◌⊎◌, List, [], ◌∷◌, ◌++◌, length, set, Some, None, sym, refl, ap, ◌∙◌, subst, inl, inr, arith}
+use Rattle.std.proofs.Common.{◌≡◌, ℕ, suc, ◌<◌, Bool, true, false, cond, not, ◌+◌, ◌⊎◌, List, [], ◌∷◌, ◌++◌, length, get_or, set, Some, None, Option, option_map, find, sym, refl, ap, ◌∙◌, subst, inl, inr, arith}
+use Rattle.std.proofs.lemmas.List.{get_or_past}
+use Rattle.std.proofs.lemmas.List.Folds.{find-set, find_past}
+use Rattle.std.proofs.lemmas.List.Sums.{passes_at_first}
 use Rattle.std.proofs.lemmas.Bool.{lt-ltb, le-ltb, cases_lt, cases_Bool, both_ways}
 use Rattle.keylines.specs.declared.lines.Pair.{Pair}
 use Rattle.keylines.specs.Pairs.{with_words, place_of, room_for, put_pairs, closed, erased_pairs, words_of}
 use Rattle.keylines.specs.Laws.{Present, DistinctKeys, PutLaw, EraseLaw}
 use Rattle.keylines.proofs.Closing.{last_of, front_of, turned, closed_first, closed_later}
 use Rattle.keylines.proofs.Puts.{put_held, put_new, put_full}
+
+-- the words of a pair, or else of what was found
+abbrev words_by : {K : Type 0} → Bool → Pair K → Option (Pair K) → Option (List ℕ)
+words_by b p o = option_map (λ r. r.words) (cond b (Some p) o)
 
 module _ {K : Type 0} (alike : K → K → Bool) (exact : (x y : K) → alike x y ≡ true → x ≡ y) (itself : (x : K) → alike x x ≡ true) where
   yes_alike : (x y : K) → x ≡ y → alike x y ≡ true
@@ -20,19 +27,20 @@ module _ {K : Type 0} (alike : K → K → Bool) (exact : (x y : K) → alike x 
 
   -- one pair in front
   place_here : (k : K) (p : Pair K) (ps : List (Pair K)) → p.key ≡ k → place_of alike k (p ∷ ps) ≡ 0
-  place_here k p ps e = ap (λ b. cond b 0 (suc (place_of alike k ps))) (yes_alike p.key k e)
+  place_here k p ps e = ap (λ b. cond (not b) (1 + place_of alike k ps) 0) (yes_alike p.key k e)
 
   place_there : (k : K) (p : Pair K) (ps : List (Pair K)) → (p.key ≡ k → ⊥) → place_of alike k (p ∷ ps) ≡ suc (place_of alike k ps)
-  place_there k p ps n = ap (λ b. cond b 0 (suc (place_of alike k ps))) (not_alike p.key k n)
+  place_there k p ps n = let e = ap (λ b. cond (not b) (1 + place_of alike k ps) 0) (not_alike p.key k n) in omega (arith, e)
 
   words-here : (q : K) (p : Pair K) (ps : List (Pair K)) → p.key ≡ q → words_of alike q (p ∷ ps) ≡ Some p.words
-  words-here q p ps e = ap (λ b. cond b (Some p.words) (words_of alike q ps)) (yes_alike p.key q e)
+  words-here q p ps e = ap (λ b. words_by b p (find (λ r. alike r.key q) ps)) (yes_alike p.key q e)
 
   words_there : (q : K) (p : Pair K) (ps : List (Pair K)) → (p.key ≡ q → ⊥) → words_of alike q (p ∷ ps) ≡ words_of alike q ps
-  words_there q p ps n = ap (λ b. cond b (Some p.words) (words_of alike q ps)) (not_alike p.key q n)
+  words_there q p ps n = ap (λ b. words_by b p (find (λ r. alike r.key q) ps)) (not_alike p.key q n)
 
   words_behind : (q : K) (p : Pair K) (ps qs : List (Pair K)) → words_of alike q ps ≡ words_of alike q qs → words_of alike q (p ∷ ps) ≡ words_of alike q (p ∷ qs)
-  words_behind q p ps qs e = ap (λ o. cond (alike p.key q) (Some p.words) o) e
+  words_behind q p ps qs e =
+      elim (alike p.key q) as (λ b. words_by b p (find (λ r. alike r.key q) ps) ≡ words_by b p (find (λ r. alike r.key q) qs)) [ true ↦ refl | false ↦ e ]
 
   -- a key is held exactly where it is present
   pub place-present : (k : K) (ps : List (Pair K)) → Present k ps → place_of alike k ps < length ps
@@ -63,26 +71,22 @@ module _ {K : Type 0} (alike : K → K → Bool) (exact : (x y : K) → alike x 
   -- new words at the place of a key
   module _ (k : K) (w : List ℕ) where
     set_words : (ps : List (Pair K)) → place_of alike k ps < length ps → words_of alike k (set ps (place_of alike k ps) (with_words k w)) ≡ Some w
-    set_words [] h = absurd (omega arith)
-    set_words (p ∷ ps) h =
-        elim (same_or_not p.key k) [
-          | inl e ↦ ap (λ m. words_of alike k (set (p ∷ ps) m (with_words k w))) (place_here k p ps e) ∙ words-here k (with_words k w) ps refl
-          | inr n ↦ let z = place_there k p ps n in
-              ap (λ m. words_of alike k (set (p ∷ ps) m (with_words k w))) z
-              ∙ words_there k p (set ps (place_of alike k ps) (with_words k w)) n
-              ∙ set_words ps (omega arith)
+    set_words ps h =
+        ap (option_map (λ p. p.words)) (find-set (λ p. alike p.key k) ps (place_of alike k ps) (with_words k w) refl h (itself k))
+
+    -- what is written over has the key
+    key_there : (ps : List (Pair K)) → (get_or ps (place_of alike k ps) (with_words k w)).key ≡ k
+    key_there ps =
+        elim (cases_lt (place_of alike k ps) (length ps)) [
+          | inl h ↦ exact _ _ (passes_at_first (λ p. alike p.key k) ps (with_words k w) h)
+          | inr h ↦ ap (λ p. p.key) (get_or_past ps (place_of alike k ps) (with_words k w) h)
         ]
 
     set-others : (q : K) (ps : List (Pair K)) → (k ≡ q → ⊥) → words_of alike q (set ps (place_of alike k ps) (with_words k w)) ≡ words_of alike q ps
-    set-others q [] d = refl
-    set-others q (p ∷ ps) d =
-        elim (same_or_not p.key k) [
-          | inl e ↦ ap (λ m. words_of alike q (set (p ∷ ps) m (with_words k w))) (place_here k p ps e)
-              ∙ words_there q (with_words k w) ps d
-              ∙ sym (words_there q p ps (λ f. d (sym e ∙ f)))
-          | inr n ↦ ap (λ m. words_of alike q (set (p ∷ ps) m (with_words k w))) (place_there k p ps n)
-              ∙ words_behind q p (set ps (place_of alike k ps) (with_words k w)) ps (set-others q ps d)
-        ]
+    set-others q ps d =
+        ap (option_map (λ p. p.words))
+        (find_past (λ p. alike p.key q) ps (place_of alike k ps) (with_words k w) (with_words k w)
+        (not_alike (get_or ps (place_of alike k ps) (with_words k w)).key q (λ e. d (sym (key_there ps) ∙ e))) (not_alike k q d))
 
     set-present : (q : K) (ps : List (Pair K)) → Present q (set ps (place_of alike k ps) (with_words k w)) → Present q ps
     set-present q [] h = h

@@ -1,5 +1,4 @@
 pub mod Limits
 pub mod Pairs
 pub mod Sheets
-pub mod Slices
 pub mod Laws

@@ -12,16 +12,15 @@
 -- | erased_pairs | the pairs after an erase                                                        |
 -- | words_of     | the words of a key, if it is held                                               |
 -- | largest_of   | the largest key, if there is a pair                                             |
-use Rattle.std.specs.Prelude.{ℕ, suc, ◌-◌, Bool, cond, ◌||◌, List, [], ◌∷◌, ◌++◌, length, take, Some, None, fold, Option, nat_lt, slice_set}
-use Rattle.std.specs.List.{slice_get}
+use Rattle.std.specs.Prelude.{ℕ, ◌-◌, Bool, cond, ◌||◌, List, [], ◌∷◌, ◌++◌, length, take, Some, None, fold, Option, option_map, find, nat_lt, slice_get, slice_set}
+use Rattle.std.specs.List.{position_or_len}
 use Rattle.keylines.specs.declared.lines.Pair.{Pair}
 
 abbrev pub with_words : {K : Type 0} → K → List ℕ → Pair K
 with_words k w = record { key = k; words = w }
 
 abbrev pub place_of : {K : Type 0} → (K → K → Bool) → K → List (Pair K) → ℕ
-place_of alike k [] = 0
-place_of alike k (p ∷ ps) = cond (alike p.key k) 0 (suc (place_of alike k ps))
+place_of alike k ps = position_or_len (λ p. alike p.key k) ps
 
 abbrev pub holds : {K : Type 0} → (K → K → Bool) → K → List (Pair K) → Bool
 holds alike k ps = nat_lt (place_of alike k ps) (length ps)
@@ -44,8 +43,7 @@ abbrev pub erased_pairs : {K : Type 0} → (K → K → Bool) → K → List (Pa
 erased_pairs alike k ps = cond (holds alike k ps) (closed (place_of alike k ps) ps) ps
 
 abbrev pub words_of : {K : Type 0} → (K → K → Bool) → K → List (Pair K) → Option (List ℕ)
-words_of alike k [] = None
-words_of alike k (p ∷ ps) = cond (alike p.key k) (Some p.words) (words_of alike k ps)
+words_of alike k ps = option_map (λ p. p.words) (find (λ p. alike p.key k) ps)
 
 -- the larger of the largest key so far and one more key
 abbrev pub larger_of : {K : Type 0} → (K → K → Bool) → Option K → K → Option K

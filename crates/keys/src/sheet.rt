@@ -9,7 +9,7 @@ use crate::table::KeyTable;
 use keylines::{ChannelLine, Key};
 
 // How many channel lines were fit and unfit for the table that they were applied to.
-#[derive(Clone, Copy, PartialEq, Eq, Debug)]
+#[derive(Clone, Copy, PartialEq, Eq, Debug, Default)]
 pub struct KeySheet {
     fit: u32,
     unfit: u32,
@@ -20,31 +20,25 @@ impl KeySheet {
     pub fn new() -> KeySheet
         ensures { result ≡ no_lines }
     {
-        KeySheet { fit: 0, unfit: 0 }
+        KeySheet::default()
     }
 
     // Counts one line more.
     fn count(&mut self, fit: bool)
         ensures { self.new ≡ one_more fit self.old }
     {
-        *self = if fit {
-            KeySheet {
-                fit: self.fit.saturating_add(1),
-                ..*self
-            }
+        if fit {
+            self.fit = self.fit.saturating_add(1);
         } else {
-            KeySheet {
-                unfit: self.unfit.saturating_add(1),
-                ..*self
-            }
-        };
+            self.unfit = self.unfit.saturating_add(1);
+        }
     }
 
     // Applies one line to the table, and counts it as fit or unfit.
     pub fn apply<K: Key>(&mut self, table: &mut KeyTable<K>, line: ChannelLine<K>)
-        ensures after { sheet_now table.new self.new ≡ applied K.alike (table_capacity table.old) (sheet_now table.old self.old) line }
+        ensures after { sheet_now table.new self.new ≡ applied K.eq (table_capacity table.old) (sheet_now table.old self.old) line }
         ensures slice { SameSlice table.old table.new }
-        ensures law { LawsGoOn K.alike (table_capacity table.old) (sheet_now table.old self.old) (line ∷ []) (sheet_now table.new self.new) }
+        ensures law { LawsGoOn K.eq (table_capacity table.old) (sheet_now table.old self.old) (line ∷ []) (sheet_now table.new self.new) }
     {
         let fit = table.apply(line);
         self.count(fit);
@@ -52,10 +46,10 @@ impl KeySheet {
 
     // Applies lines to the table in their order, and counts them.
     pub fn apply_all<K: Key>(&mut self, table: &mut KeyTable<K>, lines: &[ChannelLine<K>])
-        ensures after { sheet_now table.new self.new ≡ worked_on K.alike (table_capacity table.old) (sheet_now table.old self.old) lines.now }
+        ensures after { sheet_now table.new self.new ≡ worked_on K.eq (table_capacity table.old) (sheet_now table.old self.old) lines.now }
         ensures slice { SameSlice table.old table.new }
-        ensures law { LawsGoOn K.alike (table_capacity table.old) (sheet_now table.old self.old) lines.now (sheet_now table.new self.new) }
-        ensures equal { SheetsAgree K.alike lines.now table.old self.old table.new self.new }
+        ensures law { LawsGoOn K.eq (table_capacity table.old) (sheet_now table.old self.old) lines.now (sheet_now table.new self.new) }
+        ensures equal { SheetsAgree K.eq lines.now table.old self.old table.new self.new }
     {
         for line in lines {
             self.apply(table, *line);

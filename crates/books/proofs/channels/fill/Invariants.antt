@@ -9,5 +9,5 @@ use Rattle.books.proofs.channels.fill.Given as goal
 
 abbrev pub invariant-loop-i : goal.invariant-loop-i
 invariant-loop-i g l =
-    ((m : RosterModel (Entry (ChannelLine g.row.K.Denot))) → Filled g.K.Key.alike (table_capacity l.initial.table) (store_of l.group m) l.worker l.i (sheet_now l.table l.sheet))
+    ((m : RosterModel (Entry (ChannelLine g.row.K.Denot))) → Filled g.K.PartialEq.eq (table_capacity l.initial.table) (store_of l.group m) l.worker l.i (sheet_now l.table l.sheet))
     × SameSlice l.initial.table l.table

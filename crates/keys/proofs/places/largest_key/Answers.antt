@@ -1,21 +1,24 @@
--- A turn takes one key more into the fold; the law follows for the used pairs.
-use Rattle.std.proofs.Common.{◌≡◌, take, sym, ap, ◌∙◌, subst, arith, rules}
-use Rattle.std.proofs.lemmas.List.Sums.{fold_more}
+-- `max` folds over the keys of the pairs, and its answer is the fold that the clause names; the law follows for it.
+use Rattle.std.proofs.Common.{◌≡◌, refl, sym, ap, ◌∙◌, subst, rules}
+use Rattle.std.proofs.lemmas.Iterator.{YieldsList-from_slice, YieldsList-from_map}
+use Rattle.std.proofs.lemmas.Iterator.Consumers.{reduce_from_yields_List}
+use Rattle.std.specs.Slice.Iter.{iter_rest}
+use Rattle.std.specs.Ordering.{max_by_ordering}
 use Rattle.keylines.specs.Laws.{Largest}
 use Rattle.keylines.specs.Pairs.{largest_of}
-use Rattle.keylines.proofs.Tops.{largest_law}
+use Rattle.keylines.proofs.Tops.{largest-max, largest_law}
 use Rattle.keys.proofs.places.largest_key.Goals as goal
-
-pub loop-i-preserved : goal.loop-i-preserved
-loop-i-preserved g c = search (rules, fold_more)
 
 pub returns : goal.returns
 returns g c =
-    let ps = take c.args.used c.args.pairs.now in
-    let at : c.loop-i.i ≡ c.args.used = omega arith in
-    let e : c.loop-i.best ≡ largest_of g.K.OrderedKey.above ps = c.loop-i.invariant ∙ ap (λ n. largest_of g.K.OrderedKey.above (take n c.args.pairs.now)) at in
+    let ps = c.args.pairs.now in
+    let cmp = g.K.Ord.cmp in
+    let above = g.K.OrderedKey.above in
+    let k = g.met.K in
+    let keys = YieldsList-from_map _ (λ p. p.key) (YieldsList-from_slice ps (ap iter_rest c.map.ensures.source ∙ c.iter.ensures.rest)) refl (λ x r q k. search rules) in
+    let e : c.max.result ≡ largest_of above ps = reduce_from_yields_List (λ b k. max_by_ordering (cmp b k) b k) c.map.result c.max.result c.max.ensures.ran keys
+    ∙ largest-max g.K.PartialEq.eq cmp above k.Ord.total k.Ord.matches_eq k.Key.exact k.OrderedKey.ordered ps in
     record {
       value = e;
-      law = subst (Largest g.K.OrderedKey.above ps) (sym e)
-          (largest_law g.K.OrderedKey.above g.met.K.OrderedKey.total g.met.K.OrderedKey.transitive g.met.K.OrderedKey.strict ps);
+      law = subst (Largest above ps) (sym e) (largest_law g.K.PartialEq.eq cmp above k.Ord.total k.Ord.matches_eq k.Key.exact k.OrderedKey.ordered ps);
     }

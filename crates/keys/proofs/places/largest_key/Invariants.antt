@@ -1,7 +1,0 @@
--- The largest key of the pairs so far.
-use Rattle.std.proofs.Common.{◌≡◌, take}
-use Rattle.keylines.specs.Pairs.{largest_of}
-use Rattle.keys.proofs.places.largest_key.Given as goal
-
-abbrev pub invariant-loop-i : goal.invariant-loop-i
-invariant-loop-i g l = l.best ≡ largest_of g.K.OrderedKey.above (take l.i l.pairs)

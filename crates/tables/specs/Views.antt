@@ -27,4 +27,4 @@ abbrev pub row_of : {C : Type 0} → ℕ → List C → List C
 row_of w cells = take lines (drop (lines * w) cells)
 
 abbrev pub HasRow : {C : Type 0} → Table C → ℕ → Type 0
-HasRow t w = lines * w + lines ≤ length t.all.now
+HasRow t w = lines * w + lines ≤ length (table_of t)

@@ -1,32 +1,17 @@
--- A store whose tables were emptied where the sizes are right, and left where not, is that of a made group; and what is past a table is no line.
-use Rattle.std.proofs.Common.{◌≡◌, ℕ, zero, suc, ◌≤◌, Bool, true, false, cond, List, [], ◌∷◌, length, get_or, replicate, None, Err, Option, sym, refl, ap, ◌∙◌, arith}
+-- A store whose tables were emptied where the sizes are right, and left where not, is that of a made group.
+use Rattle.std.proofs.Common.{◌≡◌, ℕ, Bool, true, false, cond, List, [], length, replicate, None, Err, Option, refl, ap, ◌∙◌}
 use lib.ListN.{length-replicate}
-use Rattle.std.proofs.lemmas.Bool.{cond-true, cond_both}
+use Rattle.std.proofs.lemmas.Bool.{cond-true}
 use Rattle.protocol.specs.declared.fault.StepFault.TheVariants.{Unmade}
 use Rattle.protocol.specs.declared.step.Step.{Step}
 use Rattle.protocol.specs.declared.worker.Worker.{Worker}
 use Rattle.protocol.specs.Faults.{worker_in}
-use Rattle.protocol.specs.Lines.{cell_of, in_book}
-use Rattle.protocol.specs.Runs.{holds}
 use Rattle.protocol.specs.Promises.{Begins}
 use Rattle.protocol.specs.Sizes.{sized_test}
-use Rattle.protocol.specs.Store.{Store, Same, blank, cell_at, made_in, made_of, step_answer}
-use Rattle.memory.specs.Views.{SizedIn}
+use Rattle.protocol.specs.Store.{Store, Same, blank, made_in, made_of, step_answer}
 use Rattle.protocol.proofs.Chain.{store_same}
 use Rattle.protocol.proofs.Starts.{begins}
 use Rattle.protocol.proofs.Unmade.{unmade_refuses}
-
-pub past_none : {L : Type 0} (cells : List (Option L)) (i : ℕ) → length cells ≤ i → get_or cells i None ≡ None
-past_none [] i h = refl
-past_none (x ∷ xs) zero h = absurd (omega arith)
-past_none (x ∷ xs) (suc i) h = past_none xs i (omega arith)
-
--- a worker that the group does not have holds nothing
-pub stranger_none : {L : Type 0} (g : Store L) (w k : ℕ) → SizedIn g → length g.workers ≤ w → None ≡ holds g w k
-stranger_none {L} g w k s h =
-    let l = s.learneds in
-    let P : Option L → Type 0 = λ o. None ≡ o in
-    cond_both (made_in g) _ None P (λ _. cond_both (in_book k) (cell_at g.learned w k) None P (λ _. sym (past_none g.learned (cell_of w k) (omega arith))) (λ _. refl)) (λ _. refl)
 
 abbrev none : (X : Type 0) → Option X
 none X = None

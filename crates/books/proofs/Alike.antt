@@ -1,5 +1,6 @@
 -- Equal sheets: workers that hold the lines 1 to j hold the same lines, so that what is worked out from them is equal.
 use Rattle.std.proofs.Common.{◌≡◌, ℕ, Bool, List, Some, None, Ok, Err, Option, Result, sym, refl, ap, ◌∙◌, arith}
+use Rattle.protocol.specs.Faults.{told_of}
 use Rattle.protocol.specs.Runs.{History, Run, book_to}
 use Rattle.protocol.specs.Store.{Store}
 use Rattle.protocol.proofs.Chain.{promises}
@@ -8,17 +9,17 @@ use Rattle.pack.specs.Sheets.{remaining_of}
 use Rattle.keylines.specs.declared.lines.ChannelLine.{ChannelLine}
 use Rattle.keylines.specs.Sheets.{sheet_of}
 use Rattle.books.specs.declared.fault.SheetFault.{SheetFault}
-use Rattle.books.specs.Sheets.{EqualKeySheets, EqualPackSheets, after, asked_of, lines_held, lines_to, packs_of, told_sheet, works_out}
+use Rattle.books.specs.Sheets.{EqualKeySheets, EqualPackSheets, after, asked_of, lines_held, lines_to, packs_of, works_out}
 
 module _ {L X : Type 0} (sheet : List L → X) where
   -- the lines behind a sheet that was answered
-  behind : (w : ℕ) (q : Result Unit SheetFault) (o : Option (List L)) (s : X) → told_sheet w (works_out sheet (after q (lines_held o))) ≡ Ok s → (ls : List L) × (o ≡ Some ls) × (sheet ls ≡ s)
+  behind : (w : ℕ) (q : Result Unit SheetFault) (o : Option (List L)) (s : X) → told_of w (works_out sheet (after q (lines_held o))) ≡ Ok s → (ls : List L) × (o ≡ Some ls) × (sheet ls ≡ s)
   behind w (Err f) o s e = let z : ◌≡◌ {A = ℕ} 0 1 = cc in absurd (omega arith)
   behind w (Ok _) None s e = let z : ◌≡◌ {A = ℕ} 0 1 = cc in absurd (omega arith)
   behind w (Ok _) (Some ls) s e = (ls, refl, let same : sheet ls ≡ s = cc in same)
 
   sheets_equal : (g : Store L) (h : History L) → Run L g h → (w u j : ℕ) (s t : X)
-      → told_sheet w (works_out sheet (lines_to g w j)) ≡ Ok s → told_sheet u (works_out sheet (lines_to g u j)) ≡ Ok t → s ≡ t
+      → told_of w (works_out sheet (lines_to g w j)) ≡ Ok s → told_of u (works_out sheet (lines_to g u j)) ≡ Ok t → s ≡ t
   sheets_equal g h r w u j s t p q =
       let a = behind w (asked_of g w) (book_to g w j) s p in
       let b = behind u (asked_of g u) (book_to g u j) t q in

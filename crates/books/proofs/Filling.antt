@@ -1,5 +1,5 @@
 -- A key table that is filled line by line holds the sheet of the lines so far, where they are all held.
-use Rattle.std.proofs.Common.{◌≡◌, ℕ, ◌+◌, Bool, List, [], ◌∷◌, ◌++◌, Some, None, Option, sym, refl, ap, ◌∙◌, arith}
+use Rattle.std.proofs.Common.{◌≡◌, ℕ, ◌-◌, ◌<◌, Bool, List, [], ◌∷◌, ◌++◌, Some, None, Option, sym, refl, ap, ◌∙◌, arith}
 use Rattle.std.proofs.lemmas.List.Sums.{fold-append}
 use Rattle.protocol.specs.Runs.{holds, joined, book_to}
 use Rattle.protocol.specs.Store.{Store}
@@ -23,15 +23,15 @@ module _ {K : Type 0} (alike : K → K → Bool) (c : ℕ) where
       ∙ sym (fold-append (applied alike c) empty_sheet bs (a ∷ [])) ∙ ap (sheet_of alike c) all
 
   -- one line more is held, and applied to a table of the same capacity
-  pub fill_more : (g : Store (ChannelLine K)) (w i d : ℕ) (s t : Sheet K) (l : ChannelLine K) → Filled g w i s → Some l ≡ holds g w (i + 1) → d ≡ c → t ≡ applied alike d s l → Filled g w (i + 1) t
-  fill_more g w i d s t l before e same step ls f =
-      joined_fill (book_to g w i) (holds g w (i + 1)) s t l before e (step ∙ ap (λ n. applied alike n s l) same) ls (sym (one_more g w i) ∙ f)
+  pub fill_more : (g : Store (ChannelLine K)) (w k j d : ℕ) (s t : Sheet K) (l : ChannelLine K) → 0 < k → k ≡ j → Filled g w (k - 1) s → Some l ≡ holds g w k → d ≡ c → t ≡ applied alike d s l → Filled g w j t
+  fill_more g w k j d s t l p last before e same step ls f =
+      joined_fill (book_to g w (k - 1)) (holds g w k) s t l before e (step ∙ ap (λ n. applied alike n s l) same) ls (sym (one_more g w k p) ∙ ap (book_to g w) last ∙ f)
 
   -- a missing line: there is no such sheet
-  pub fill_gap : (g : Store (ChannelLine K)) (w i : ℕ) (s : Sheet K) → None ≡ holds g w (i + 1) → Filled g w (i + 1) s
-  fill_gap g w i s e ls f =
-      let none : joined (book_to g w i) None ≡ Some ls = ap (joined (book_to g w i)) e ∙ sym (one_more g w i) ∙ f in
-      absurd (no_join (book_to g w i) ls none)
+  pub fill_gap : (g : Store (ChannelLine K)) (w k j : ℕ) (s : Sheet K) → 0 < k → k ≡ j → None ≡ holds g w k → Filled g w j s
+  fill_gap g w k j s p last e ls f =
+      let none : joined (book_to g w (k - 1)) None ≡ Some ls = ap (joined (book_to g w (k - 1))) e ∙ sym (one_more g w k p) ∙ ap (book_to g w) last ∙ f in
+      absurd (no_join (book_to g w (k - 1)) ls none)
     where
       no_join : (o : Option (List (ChannelLine K))) (ls : List (ChannelLine K)) → joined o None ≡ Some ls → ⊥
       no_join None ls h = let z : ◌≡◌ {A = ℕ} 0 1 = cc in omega arith

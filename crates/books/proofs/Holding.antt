@@ -1,11 +1,10 @@
 -- How far the lines of a worker go without a gap: line by line, with the lines so far all held.
-use Rattle.std.proofs.Common.{◌≡◌, ℕ, zero, suc, ◌+◌, ◌-◌, ◌<◌, Bool, true, false, cond, List, [], ◌∷◌, ◌++◌, is_some, Some, None, Option, sym, refl, ap, ◌∙◌, arith}
+use Rattle.std.proofs.Common.{◌≡◌, ℕ, zero, suc, ◌+◌, ◌-◌, ◌<◌, ◌≤◌, Bool, true, false, cond, List, [], ◌∷◌, ◌++◌, is_some, Some, None, Option, sym, refl, ap, ◌∙◌, subst, ap₂, add-one, arith}
 use Rattle.protocol.specs.Limits.{lines}
 use Rattle.protocol.specs.Lines.{in_book}
 use Rattle.protocol.specs.Runs.{holds, joined, book_to}
 use Rattle.protocol.specs.Store.{Store, made_in, cell_at}
 use Rattle.books.specs.Sheets.{HeldTo, goes_on, held_from, held_to}
-use Rattle.books.proofs.Gaps.{one_more}
 
 module _ {L : Type 0} (g : Store L) (w : ℕ) where
   -- the first i lines are held, and what follows them is looked for from there
@@ -17,25 +16,28 @@ module _ {L : Type 0} (g : Store L) (w : ℕ) where
   pub at_start : Reached 0
   at_start = record { book = []; all = refl; rest = refl }
 
-  more : (n i : ℕ) (l : L) → 0 < n → holds g w (i + 1) ≡ Some l → held_from g w n i ≡ held_from g w (n - 1) (i + 1)
+  more : (n i : ℕ) (l : L) → 0 < n → holds g w (suc i) ≡ Some l → held_from g w n i ≡ held_from g w (n - 1) (suc i)
   unfolding held_from
   more zero i l h e = absurd (omega arith)
-  more (suc n) i l h e = let same : n ≡ suc n - 1 = omega arith in ap (λ o. goes_on o (held_from g w n (i + 1)) i) e ∙ ap (λ m. held_from g w m (i + 1)) same
+  more (suc n) i l h e = let same : n ≡ suc n - 1 = omega arith in ap (λ o. goes_on o (held_from g w n (i + 1)) i) (ap (holds g w) (add-one i) ∙ e) ∙ ap₂ (held_from g w) same (add-one i)
 
   stop : (n i : ℕ) → holds g w (i + 1) ≡ None → held_from g w n i ≡ i
   unfolding held_from
   stop zero i e = refl
   stop (suc n) i e = ap (λ o. goes_on o (held_from g w n (i + 1)) i) e
 
-  pub one-held : (i : ℕ) (o : Option L) → i < lines → Reached i → o ≡ holds g w (i + 1) → is_some o ≡ true → Reached (i + 1)
-  one-held i None h r e f = absurd (grind arith)
-  one-held i (Some l) h r e f =
-      let same : lines - (i + 1) ≡ lines - i - 1 = omega arith in
-      record {
-        book = r.book ++ (l ∷ []);
-        all = one_more g w i ∙ ap (λ o. joined o (holds g w (i + 1))) r.all ∙ ap (joined (Some r.book)) (sym e);
-        rest = ap (λ n. held_from g w n (i + 1)) same ∙ sym (more (lines - i) i l (omega arith) (sym e)) ∙ r.rest;
-      }
+  pub one-held : (k j : ℕ) (o : Option L) → 0 < k → k ≤ lines → k ≡ j → Reached (k - 1) → o ≡ holds g w k → is_some o ≡ true → Reached j
+  one-held zero j o p h same r e f = absurd (omega arith)
+  one-held (suc i) j None p h same r e f = absurd (grind arith)
+  one-held (suc i) j (Some l) p h same r e f =
+      let before : suc i - 1 ≡ i = omega arith in
+      let so_far = subst Reached before r in
+      let left : lines - suc i ≡ lines - i - 1 = omega arith in
+      subst Reached same (record {
+        book = so_far.book ++ (l ∷ []);
+        all = ap (λ o. joined o (holds g w (suc i))) so_far.all ∙ ap (joined (Some so_far.book)) (sym e);
+        rest = ap (λ n. held_from g w n (suc i)) left ∙ sym (more (lines - i) i l (omega arith) (sym e)) ∙ so_far.rest;
+      })
 
   -- where the next line is missing
   pub ended : (i : ℕ) → Reached i → holds g w (i + 1) ≡ None → (i ≡ held_to g w) × HeldTo g w i

@@ -9,12 +9,11 @@ use Rattle.protocol.specs.declared.fault.Layer.{Layer}
 use Rattle.protocol.specs.declared.fault.Layer.TheVariants.{Group}
 use Rattle.books.specs.declared.fault.SheetFault.{SheetFault}
 use Rattle.books.specs.declared.fault.SheetFault.TheVariants.{Unmade, NoWorker, NotHeld}
-use Rattle.books.specs.declared.fault.SheetRefusal.{SheetRefusal}
 
 abbrev pub sheet_number : SheetFault → ℕ
 sheet_number Unmade = 1
 sheet_number NoWorker = 2
 sheet_number NotHeld = 12
 
-abbrev pub sheet_layer : SheetRefusal → Layer
-sheet_layer r = Group
+abbrev pub sheet_layer : SheetFault → Layer
+sheet_layer f = Group

@@ -10,7 +10,6 @@
 -- | works_out       | a sheet worked out from the lines of an answer                                                  |
 -- | no_sheet        | nothing is worked out: the lines are only asked for                                             |
 -- | asked_to g w j  | whether worker w holds the lines 1 to j, or the first question that is answered with no         |
--- | told_sheet w r  | the answer r about the worker w, with that worker in a refusal                                  |
 -- | packs_of        | the pack sheet of stored lines                                                                  |
 -- | pack_sheet_to   | the pack sheet of the lines 1 to j of worker w                                                  |
 -- | key_sheet_to    | the key sheet of the lines 1 to j of worker w, on a table of capacity c                         |
@@ -24,6 +23,8 @@
 -- | EqualPackSheets | in every run that leads here, whoever has a pack sheet to j has one that equals worker w's      |
 -- | EqualKeySheets  | the same of key sheets on tables of one capacity                                                |
 use Rattle.std.specs.Prelude.{◌≡◌, ℕ, zero, suc, ◌+◌, Bool, cond, List, map, length, Some, None, Ok, Err, Option, Result, nat_lt}
+use Rattle.protocol.specs.declared.fault.Refusal.{Refusal}
+use Rattle.protocol.specs.Faults.{told_of}
 use Rattle.protocol.specs.Limits.{lines}
 use Rattle.protocol.specs.Runs.{History, Run, holds, book_to}
 use Rattle.protocol.specs.Store.{Store, made_in}
@@ -38,7 +39,6 @@ use Rattle.keys.specs.declared.table.KeyTable.{KeyTable}
 use Rattle.keys.specs.Views.{sheet_now}
 use Rattle.books.specs.declared.fault.SheetFault.{SheetFault}
 use Rattle.books.specs.declared.fault.SheetFault.TheVariants.{Unmade, NoWorker, NotHeld}
-use Rattle.books.specs.declared.fault.SheetRefusal.{SheetRefusal}
 
 abbrev pub after : {X : Type 0} → Result Unit SheetFault → Result X SheetFault → Result X SheetFault
 after (Ok _) next = next
@@ -47,10 +47,6 @@ after (Err f) next = Err f
 abbrev pub works_out : {X Y : Type 0} → (X → Y) → Result X SheetFault → Result Y SheetFault
 works_out sheet (Ok x) = Ok (sheet x)
 works_out sheet (Err f) = Err f
-
-abbrev pub told_sheet : {X : Type 0} → ℕ → Result X SheetFault → Result X SheetRefusal
-told_sheet w (Ok x) = Ok x
-told_sheet w (Err f) = Err (record { fault = f; worker = w })
 
 module _ {L : Type 0} where
   abbrev pub asked_of : Store L → ℕ → Result Unit SheetFault
@@ -88,8 +84,8 @@ module _ {L : Type 0} where
 abbrev pub packs_of : List StoredPackLine → PackSheet
 packs_of ls = packsIn (map restored_of ls)
 
-abbrev pub pack_sheet_to : Store StoredPackLine → ℕ → ℕ → Result PackSheet SheetRefusal
-pack_sheet_to g w j = told_sheet w (works_out packs_of (lines_to g w j))
+abbrev pub pack_sheet_to : Store StoredPackLine → ℕ → ℕ → Result PackSheet (Refusal SheetFault)
+pack_sheet_to g w j = told_of w (works_out packs_of (lines_to g w j))
 
 -- floats are equal bit for bit
 pub record AlikePacks (s t : PackSheet) : Type 0 where
@@ -102,10 +98,10 @@ abbrev pub EqualPackSheets : Store StoredPackLine → ℕ → ℕ → Type 0
 EqualPackSheets g w j =
     (h : History StoredPackLine) → Run StoredPackLine g h → (u : ℕ) (s t : PackSheet) → pack_sheet_to g w j ≡ Ok s → pack_sheet_to g u j ≡ Ok t → AlikePacks s t
 
-abbrev pub key_sheet_to : {K : Type 0} → (K → K → Bool) → ℕ → Store (ChannelLine K) → ℕ → ℕ → Result (Sheet K) SheetRefusal
-key_sheet_to alike c g w j = told_sheet w (works_out (keysIn alike c) (lines_to g w j))
+abbrev pub key_sheet_to : {K : Type 0} → (K → K → Bool) → ℕ → Store (ChannelLine K) → ℕ → ℕ → Result (Sheet K) (Refusal SheetFault)
+key_sheet_to alike c g w j = told_of w (works_out (keysIn alike c) (lines_to g w j))
 
-abbrev pub key_sheet_got : {K : Type 0} → KeyTable K → Result KeySheet SheetRefusal → Result (Sheet K) SheetRefusal
+abbrev pub key_sheet_got : {K : Type 0} → KeyTable K → Result KeySheet (Refusal SheetFault) → Result (Sheet K) (Refusal SheetFault)
 key_sheet_got t (Ok s) = Ok (sheet_now t s)
 key_sheet_got t (Err f) = Err f
 

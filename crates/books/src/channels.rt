@@ -4,15 +4,18 @@ ghost use Rattle.roster.specs.declared.entry.Entry.{Entry as EntryOf};
 ghost use Rattle.roster.specs.Model.{RosterModel};
 ghost use Rattle.keylines.specs.Sheets.{sheet_of};
 ghost use Rattle.keys.specs.Views.{SameSlice, sheet_now, table_capacity};
+ghost use Rattle.protocol.specs.declared.fault.Refusal.{Refusal as RefusalOf};
 ghost use Rattle.protocol.specs.Runs.{book_to};
 ghost use Rattle.group.specs.Views.{store_of};
+ghost use Rattle.books.specs.declared.fault.SheetFault.{SheetFault as FaultOf};
 ghost use Rattle.books.specs.Sheets.{EqualKeySheets, key_sheet_got, key_sheet_to};
 
 use crate::ask::ask_to;
-use crate::fault::SheetRefusal;
+use crate::fault::SheetFault;
 use group::Group;
 use keylines::{ChannelLine, Key};
 use keys::{KeySheet, KeyTable};
+use protocol::Refusal;
 
 // Empties the table, applies those of the lines 1 to `to` to it that are held, and counts them.
 fn fill<K: Key>(
@@ -26,8 +29,8 @@ fn fill<K: Key>(
 {
     table.clear();
     let mut sheet = KeySheet::new();
-    for i in 0..to {
-        if let Some(line) = group.line(worker, i + 1) {
+    for k in 1..=to {
+        if let Some(line) = group.line(worker, k) {
             sheet.apply(table, line);
         }
     }
@@ -40,12 +43,12 @@ pub fn key_sheet<K: Key>(
     table: &mut KeyTable<'_, K>,
     worker: usize,
     to: usize,
-) -> Result<KeySheet, SheetRefusal>
+) -> Result<KeySheet, Refusal<SheetFault>>
     ensures value { (m' : RosterModel (EntryOf (ChannelLine K))) → key_sheet_got table.new result ≡ key_sheet_to K.eq (table_capacity table.old) (store_of group.now m') worker to }
-    ensures refused { (f : SheetRefusal) → result ≡ Err f → table.new ≡ table.old }
+    ensures refused { (f : RefusalOf FaultOf) → result ≡ Err f → table.new ≡ table.old }
     ensures slice { SameSlice table.old table.new }
     ensures equal { (m' : RosterModel (EntryOf (ChannelLine K))) → EqualKeySheets K.eq (table_capacity table.old) (store_of group.now m') worker to }
 {
-    ask_to(group, worker, to).map_err(|fault| SheetRefusal { fault, worker })?;
+    ask_to(group, worker, to).map_err(|fault| Refusal { fault, worker })?;
     Ok(fill(group, table, worker, to))
 }

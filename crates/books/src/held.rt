@@ -15,9 +15,9 @@ pub fn held_to<L: Copy>(group: &Group<'_, L>, worker: usize) -> usize
     ensures value { (m' : RosterModel (EntryOf L)) → result ≡ held_to (store_of group.now m') worker }
     ensures law { (m' : RosterModel (EntryOf L)) → HeldTo (store_of group.now m') worker result }
 {
-    for i in 0..LINES {
-        if group.line(worker, i + 1).is_none() {
-            return i;
+    for k in 1..=LINES {
+        if group.line(worker, k).is_none() {
+            return k - 1;
         }
     }
     LINES

@@ -8,6 +8,6 @@ mod held;
 mod packs;
 
 pub use channels::key_sheet;
-pub use fault::{SheetFault, SheetRefusal};
+pub use fault::SheetFault;
 pub use held::held_to;
 pub use packs::pack_sheet;

@@ -5,10 +5,11 @@ ghost use Rattle.roster.specs.Model.{RosterModel};
 ghost use Rattle.group.specs.Views.{store_of};
 ghost use Rattle.books.specs.Sheets.{EqualPackSheets, lines_to, pack_sheet_to, packs_of, works_out};
 
-use crate::ask::{ask, told};
-use crate::fault::{SheetFault, SheetRefusal};
+use crate::ask::ask;
+use crate::fault::SheetFault;
 use group::Group;
 use pack::{PackSheet, StoredPackLine};
+use protocol::Refusal;
 
 // The pack sheet of the lines 1 to `to`, or the first question that is answered with no.
 fn worked_out(
@@ -20,11 +21,9 @@ fn worked_out(
 {
     ask(group, worker)?;
     let mut sheet = PackSheet::new();
-    for i in 0..to {
-        match group.line(worker, i + 1) {
-            Some(line) => sheet.apply(line.into()),
-            None => return Err(SheetFault::NotHeld),
-        }
+    for k in 1..=to {
+        let line = group.line(worker, k).ok_or(SheetFault::NotHeld)?;
+        sheet.apply(line.into());
     }
     Ok(sheet)
 }
@@ -34,9 +33,9 @@ pub fn pack_sheet(
     group: &Group<'_, StoredPackLine>,
     worker: usize,
     to: usize,
-) -> Result<PackSheet, SheetRefusal>
+) -> Result<PackSheet, Refusal<SheetFault>>
     ensures value { (m' : RosterModel (EntryOf StoredPackLine)) → result ≡ pack_sheet_to (store_of group.now m') worker to }
     ensures equal { (m' : RosterModel (EntryOf StoredPackLine)) → EqualPackSheets (store_of group.now m') worker to }
 {
-    told(worker, worked_out(group, worker, to))
+    worked_out(group, worker, to).map_err(|fault| Refusal { fault, worker })
 }

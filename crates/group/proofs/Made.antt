@@ -1,33 +1,18 @@
--- A made group begins a run, or refuses every step; and what is past a table is no line.
-use Rattle.std.proofs.Common.{◌≡◌, ℕ, zero, suc, ◌≤◌, Bool, true, false, cond, List, [], ◌∷◌, length, get_or, replicate, None, Err, Option, sym, refl, ap, ◌∙◌, arith}
+-- A made group begins a run, or refuses every step.
+use Rattle.std.proofs.Common.{◌≡◌, ℕ, Bool, true, false, cond, List, [], length, replicate, None, Err, Option, refl, ap, ◌∙◌}
 use lib.ListN.{length-replicate}
-use Rattle.std.proofs.lemmas.Bool.{cond-true, cond_both}
+use Rattle.std.proofs.lemmas.Bool.{cond-true}
 use Rattle.protocol.specs.declared.fault.StepFault.TheVariants.{Unmade}
 use Rattle.roster.specs.declared.entry.Entry.{Entry}
 use Rattle.roster.specs.Model.{RosterModel}
 use Rattle.protocol.specs.declared.step.Step.{Step}
 use Rattle.protocol.specs.declared.worker.Worker.{Worker}
 use Rattle.protocol.specs.Faults.{worker_in}
-use Rattle.protocol.specs.Lines.{cell_of, in_book}
-use Rattle.protocol.specs.Runs.{holds}
 use Rattle.protocol.specs.Promises.{Begins}
 use Rattle.protocol.specs.Sizes.{sized_test}
-use Rattle.protocol.specs.Store.{Store, blank, cell_at, made_in, made_of, step_answer}
-use Rattle.memory.specs.Views.{SizedIn}
+use Rattle.protocol.specs.Store.{Store, blank, made_in, made_of, step_answer}
 use Rattle.protocol.proofs.Starts.{begins}
 use Rattle.protocol.proofs.Unmade.{unmade_refuses}
-
-pub past_none : {L : Type 0} (cells : List (Option L)) (i : ℕ) → length cells ≤ i → get_or cells i None ≡ None
-past_none [] i h = refl
-past_none (x ∷ xs) zero h = absurd (omega arith)
-past_none (x ∷ xs) (suc i) h = past_none xs i (omega arith)
-
--- a worker that the group does not have holds nothing
-pub stranger_none : {L : Type 0} (g : Store L) (w k : ℕ) → SizedIn g → length g.workers ≤ w → None ≡ holds g w k
-stranger_none {L} g w k s h =
-    let l = s.learneds in
-    let P : Option L → Type 0 = λ o. None ≡ o in
-    cond_both (made_in g) _ None P (λ _. cond_both (in_book k) (cell_at g.learned w k) None P (λ _. sym (past_none g.learned (cell_of w k) (omega arith))) (λ _. refl)) (λ _. refl)
 
 module _ {L : Type 0} (ws : List Worker) (hs qs ls : List (Option L)) (room : ℕ) (m : RosterModel (Entry L)) where
   abbrev right : Bool

@@ -1,7 +1,6 @@
 // A group of workers (replicas) that keep copies of one book: making it, its nine steps, and playing any steps.
 #![tactic(auto)]
 
-mod answers;
 mod making;
 mod message_calls;
 mod plays;

@@ -6,14 +6,19 @@ ghost use Rattle.protocol.specs.Store.{step_after, step_answer};
 ghost use Rattle.group.specs.Views.{store_of};
 
 use crate::state::Group;
-use protocol::{Answer, Refusal, Step};
+use protocol::{Answer, Refusal, Step, StepFault};
 use roster::{Entry, Roster};
 
 impl<'a, L: Copy> Group<'a, L> {
-    // Does one step.
-    fn act<R: Roster<Entry<L>>>(&mut self, roster: &mut R, s: &Step<L>) -> Result<Answer, Refusal>
+    // Does one step, whichever it is. A refused one changes nothing.
+    pub fn step<R: Roster<Entry<L>>>(
+        &mut self,
+        roster: &mut R,
+        s: &Step<L>,
+    ) -> Result<Answer, Refusal<StepFault>>
         ensures value { result ≡ step_answer s.now (store_of self.old (R.model roster.old)) }
         ensures after { store_of self.new (R.model roster.new) ≡ step_after s.now (store_of self.old (R.model roster.old)) }
+        ensures promise { GoesOn s.now (store_of self.old (R.model roster.old)) (store_of self.new (R.model roster.new)) }
     {
         match *s {
             Step::Found(a) => self.found(roster, a),
@@ -28,26 +33,13 @@ impl<'a, L: Copy> Group<'a, L> {
         }
     }
 
-    // Does one step, whichever it is. A refused one changes nothing.
-    pub fn step<R: Roster<Entry<L>>>(
-        &mut self,
-        roster: &mut R,
-        s: &Step<L>,
-    ) -> Result<Answer, Refusal>
-        ensures value { result ≡ step_answer s.now (store_of self.old (R.model roster.old)) }
-        ensures after { store_of self.new (R.model roster.new) ≡ step_after s.now (store_of self.old (R.model roster.old)) }
-        ensures promise { GoesOn s.now (store_of self.old (R.model roster.old)) (store_of self.new (R.model roster.new)) }
-    {
-        self.act(roster, s)
-    }
-
     // Does steps one after the other, refused ones too.
     pub fn play<R: Roster<Entry<L>>>(&mut self, roster: &mut R, steps: &[Step<L>])
         ensures after { store_of self.new (R.model roster.new) ≡ plays steps.now (store_of self.old (R.model roster.old)) }
         ensures promise { PlaysOn steps.now (store_of self.old (R.model roster.old)) (store_of self.new (R.model roster.new)) }
     {
-        for i in 0..steps.len() {
-            let _ = self.step(roster, &steps[i]);
+        for step in steps {
+            let _ = self.step(roster, step);
         }
     }
 }

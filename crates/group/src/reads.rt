@@ -12,11 +12,7 @@ impl<'a, L: Copy> Group<'a, L> {
     pub fn workers(&self) -> Option<usize>
         ensures { (m' : RosterModel (EntryOf L)) → result ≡ workers_in (store_of self.now m') }
     {
-        if self.memory.is_made() {
-            Some(self.memory.workers.all.len())
-        } else {
-            None
-        }
+        self.memory.is_made().then(|| self.memory.workers.all.len())
     }
 
     // How many messages there are.
@@ -30,10 +26,7 @@ impl<'a, L: Copy> Group<'a, L> {
     pub fn line(&self, w: usize, k: usize) -> Option<L>
         ensures { (m' : RosterModel (EntryOf L)) → result ≡ holds (store_of self.now m') w k }
     {
-        if !self.memory.is_made() {
-            return None;
-        }
-        if w >= self.memory.workers.all.len() {
+        if !self.memory.is_made() || w >= self.memory.workers.all.len() {
             return None;
         }
         self.memory.learned.cell(w, k)

@@ -5,9 +5,8 @@ ghost use Rattle.protocol.specs.Promises.{GoesOn};
 ghost use Rattle.protocol.specs.Store.{step_after, step_answer};
 ghost use Rattle.group.specs.Views.{store_of};
 
-use crate::answers::told_done;
 use crate::state::Group;
-use protocol::{Answer, Refusal};
+use protocol::{Answer, Refusal, StepFault};
 use roster::{Entry, Roster};
 
 impl<'a, L: Copy> Group<'a, L> {
@@ -16,33 +15,44 @@ impl<'a, L: Copy> Group<'a, L> {
         &mut self,
         roster: &mut R,
         a: usize,
-    ) -> Result<Answer, Refusal>
+    ) -> Result<Answer, Refusal<StepFault>>
         ensures value { result ≡ step_answer (Found a) (store_of self.old (R.model roster.old)) }
         ensures after { store_of self.new (R.model roster.new) ≡ step_after (Found a) (store_of self.old (R.model roster.old)) }
         ensures promise { GoesOn (Found a) (store_of self.old (R.model roster.old)) (store_of self.new (R.model roster.new)) }
     {
-        let done = roster_steps::found(&mut self.memory, roster, a);
-        told_done(a, done)
+        roster_steps::found(&mut self.memory, roster, a)
+            .map(|()| Answer::Done)
+            .map_err(|fault| Refusal { fault, worker: a })
     }
 
     // Worker `w` takes the entry after those that it has read.
-    pub fn read<R: Roster<Entry<L>>>(&mut self, roster: &mut R, w: usize) -> Result<Answer, Refusal>
+    pub fn read<R: Roster<Entry<L>>>(
+        &mut self,
+        roster: &mut R,
+        w: usize,
+    ) -> Result<Answer, Refusal<StepFault>>
         ensures value { result ≡ step_answer (Read w) (store_of self.old (R.model roster.old)) }
         ensures after { store_of self.new (R.model roster.new) ≡ step_after (Read w) (store_of self.old (R.model roster.old)) }
         ensures promise { GoesOn (Read w) (store_of self.old (R.model roster.old)) (store_of self.new (R.model roster.new)) }
     {
-        let done = roster_steps::read(&mut self.memory, roster, w);
-        told_done(w, done)
+        roster_steps::read(&mut self.memory, roster, w)
+            .map(|()| Answer::Done)
+            .map_err(|fault| Refusal { fault, worker: w })
     }
 
     // Worker `w` makes a claim (proposal number): it appends its Lead entry, whose place is the claim.
-    pub fn lead<R: Roster<Entry<L>>>(&mut self, roster: &mut R, w: usize) -> Result<Answer, Refusal>
+    pub fn lead<R: Roster<Entry<L>>>(
+        &mut self,
+        roster: &mut R,
+        w: usize,
+    ) -> Result<Answer, Refusal<StepFault>>
         ensures value { result ≡ step_answer (Lead w) (store_of self.old (R.model roster.old)) }
         ensures after { store_of self.new (R.model roster.new) ≡ step_after (Lead w) (store_of self.old (R.model roster.old)) }
         ensures promise { GoesOn (Lead w) (store_of self.old (R.model roster.old)) (store_of self.new (R.model roster.new)) }
     {
-        let done = roster_steps::lead(&mut self.memory, roster, w);
-        told_done(w, done)
+        roster_steps::lead(&mut self.memory, roster, w)
+            .map(|()| Answer::Done)
+            .map_err(|fault| Refusal { fault, worker: w })
     }
 
     // Worker `w` carries its line `k` over into the roster.
@@ -51,13 +61,14 @@ impl<'a, L: Copy> Group<'a, L> {
         roster: &mut R,
         w: usize,
         k: usize,
-    ) -> Result<Answer, Refusal>
+    ) -> Result<Answer, Refusal<StepFault>>
         ensures value { result ≡ step_answer (Carry w k) (store_of self.old (R.model roster.old)) }
         ensures after { store_of self.new (R.model roster.new) ≡ step_after (Carry w k) (store_of self.old (R.model roster.old)) }
         ensures promise { GoesOn (Carry w k) (store_of self.old (R.model roster.old)) (store_of self.new (R.model roster.new)) }
     {
-        let done = roster_steps::carry(&mut self.memory, roster, w, k);
-        told_done(w, done)
+        roster_steps::carry(&mut self.memory, roster, w, k)
+            .map(|()| Answer::Done)
+            .map_err(|fault| Refusal { fault, worker: w })
     }
 
     // Worker `w` moves the seat (active acceptor) to worker `b`.
@@ -66,12 +77,13 @@ impl<'a, L: Copy> Group<'a, L> {
         roster: &mut R,
         w: usize,
         b: usize,
-    ) -> Result<Answer, Refusal>
+    ) -> Result<Answer, Refusal<StepFault>>
         ensures value { result ≡ step_answer (Reseat w b) (store_of self.old (R.model roster.old)) }
         ensures after { store_of self.new (R.model roster.new) ≡ step_after (Reseat w b) (store_of self.old (R.model roster.old)) }
         ensures promise { GoesOn (Reseat w b) (store_of self.old (R.model roster.old)) (store_of self.new (R.model roster.new)) }
     {
-        let done = roster_steps::reseat(&mut self.memory, roster, w, b);
-        told_done(w, done)
+        roster_steps::reseat(&mut self.memory, roster, w, b)
+            .map(|()| Answer::Done)
+            .map_err(|fault| Refusal { fault, worker: w })
     }
 }

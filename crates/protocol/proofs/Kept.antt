@@ -48,7 +48,7 @@ progress L g h r rd app some free e x new w k l wn apart lo hi room =
     let z = seen r in
     way_view g z.fit w k l _ (going.progress L (view g) h.proposed h.accepted z.run rd some free e x new w k l wn apart lo hi (let n = bares_length g.messages in omega arith))
 
-told_settled : {X : Type 0} (w : ℕ) (r : Result Answer StepFault) (f : Refusal) (new old : X) → told_of w r ≡ Err f → settled r new old ≡ old
+told_settled : {X : Type 0} (w : ℕ) (r : Result Answer StepFault) (f : Refusal StepFault) (new old : X) → told_of w r ≡ Err f → settled r new old ≡ old
 told_settled w (Ok a) f new old e = let z : ◌≡◌ {A = ℕ} 0 1 = cc in absurd (omega arith)
 told_settled w (Err g) f new old e = refl
 

@@ -3,7 +3,7 @@
 -- number f          the number of the fault f; a roster's fault keeps its own
 -- layer_of f        the layer that refuses: the group, or its roster
 -- worker_in s       the worker that the step s was given: for Found the seat, for Lose 0
--- told_of w r       the answer r of a step that was given the worker w, with that worker in a refusal
+-- told_of w r       the answer r to what was asked of the worker w, with that worker in a refusal
 use Rattle.std.specs.Prelude.{ℕ, Ok, Err, Result}
 use Rattle.roster.specs.Faults.{fault_number}
 use Rattle.protocol.specs.declared.fault.Layer.{Layer}
@@ -53,6 +53,6 @@ worker_in (Reseat w b) = w
 worker_in (Deliver m w) = w
 worker_in (Lose m) = 0
 
-abbrev pub told_of : {X : Type 0} → ℕ → Result X StepFault → Result X Refusal
+abbrev pub told_of : {X F : Type 0} → ℕ → Result X F → Result X (Refusal F)
 told_of w (Ok x) = Ok x
 told_of w (Err f) = Err (record { fault = f; worker = w })

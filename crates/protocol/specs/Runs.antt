@@ -175,7 +175,7 @@ SomeSeat L = (g : Store L) (h : History L) → Run L g h → 0 < length g.roster
 
 -- a refused step changes nothing
 abbrev pub RefusalKeeps : Type 0 → Type 0
-RefusalKeeps L = (g : Store L) (s : Step L) (f : Refusal) → step_answer s g ≡ Err f → step_after s g ≡ g
+RefusalKeeps L = (g : Store L) (s : Step L) (f : Refusal StepFault) → step_answer s g ≡ Err f → step_after s g ≡ g
 
 -- a group made with other sizes refuses every step with 1, and holds nothing
 abbrev pub UnmadeRefuses : Type 0 → Type 0

@@ -510,5 +510,5 @@ module _ {L : Type 0} where
   step_after s g = settled (step_result s g) (step_done s g) g
 
   -- what is told to the caller: the answer, or the fault with the worker as given
-  abbrev pub step_answer : Step L → Store L → Result Answer Refusal
+  abbrev pub step_answer : Step L → Store L → Result Answer (Refusal StepFault)
   step_answer s g = told_of (worker_in s) (step_result s g)

@@ -1,7 +1,8 @@
 // Why a step is refused, and what the refusal tells.
-ghost use Rattle.std.specs.Prelude.{◌≡◌, Some};
+ghost use Rattle.std.specs.Prelude.{◌≡◌, ℕ, Some};
 ghost use Rattle.protocol.specs.Faults.{number, layer_of};
 ghost use Rattle.protocol.specs.Shown.{layer_text};
+ghost use Rattle.protocol.specs.declared.fault.Layer.{Layer};
 ghost use Rattle.protocol.specs.declared.fault.StepFault.TheVariants.{OfRoster};
 
 use roster::RosterFault;
@@ -54,10 +55,25 @@ impl fmt::Display for Layer {
     }
 }
 
-// A refusal: the fault, and the worker as it was given to the step.
+// What a fault tells: the number under which it is told, and the layer that refuses.
+pub trait Fault: Copy {
+    ghost number: { Self → ℕ };
+
+    ghost layer: { Self → Layer };
+
+    // The number under which the fault is told.
+    fn number(&self) -> u32
+        ensures { result ≡ number self.now };
+
+    // The layer that refuses.
+    fn layer(&self) -> Layer
+        ensures { result ≡ layer self.now };
+}
+
+// A refusal: the fault, and the worker as it was given.
 #[derive(Clone, Copy, PartialEq, Eq, Debug)]
-pub struct Refusal {
-    pub fault: StepFault,
+pub struct Refusal<F> {
+    pub fault: F,
     pub worker: usize,
 }
 
@@ -69,11 +85,12 @@ impl From<RosterFault> for StepFault {
     }
 }
 
-impl StepFault {
-    // The number under which the fault is told.
-    pub fn number(&self) -> u32
-        ensures { result ≡ number self.now }
-    {
+impl Fault for StepFault {
+    ghost number = { number };
+
+    ghost layer = { layer_of };
+
+    fn number(&self) -> u32 {
         match *self {
             StepFault::Unmade => 1,
             StepFault::NoWorker => 2,
@@ -90,10 +107,7 @@ impl StepFault {
         }
     }
 
-    // The layer that refuses.
-    pub fn layer(&self) -> Layer
-        ensures { result ≡ layer_of self.now }
-    {
+    fn layer(&self) -> Layer {
         match *self {
             StepFault::OfRoster(_) => Layer::Roster,
             _ => Layer::Group,

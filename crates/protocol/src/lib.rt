@@ -7,7 +7,7 @@ mod promises;
 mod step;
 mod worker;
 
-pub use fault::{Layer, Refusal, StepFault};
+pub use fault::{Fault, Layer, Refusal, StepFault};
 pub use message::Message;
 pub use promises::{agreement, equal_sheets, origin, permanence, progress, refusals};
 pub use step::{Answer, Step};

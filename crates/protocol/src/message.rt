@@ -2,7 +2,7 @@
 
 // A message of a worker to another. `epoch` is the place of a Seat entry, `claim` that of a Lead entry, `line` a line
 // number from 1 to 64, and `value` the line (log entry) itself.
-#[derive(Clone, Copy)]
+#[derive(Clone, Copy, PartialEq, Eq, Debug)]
 pub enum Message<L> {
     // to a seat: promise to accept nothing of an earlier claim, and report what was accepted
     Prepare {

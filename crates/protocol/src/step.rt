@@ -3,7 +3,7 @@ ghost use Rattle.std.specs.Prelude.{◌≡◌};
 ghost use Rattle.protocol.specs.Faults.{worker_in};
 
 // One of the nine steps. Workers are numbered from 0, lines from 1, messages from 0.
-#[derive(Clone, Copy)]
+#[derive(Clone, Copy, PartialEq, Eq, Debug)]
 pub enum Step<L> {
     // give the seat (active acceptor) to a worker, as the roster's first entry
     Found(usize),
@@ -38,14 +38,14 @@ impl<L: Copy> Step<L> {
         ensures { result ≡ worker_in self.now }
     {
         match *self {
-            Step::Found(seat) => seat,
-            Step::Read(worker) => worker,
-            Step::Lead(worker) => worker,
-            Step::Prepare(worker) => worker,
-            Step::Propose(worker, _, _) => worker,
-            Step::Carry(worker, _) => worker,
-            Step::Reseat(worker, _) => worker,
-            Step::Deliver(_, worker) => worker,
+            Step::Found(worker)
+            | Step::Read(worker)
+            | Step::Lead(worker)
+            | Step::Prepare(worker)
+            | Step::Propose(worker, _, _)
+            | Step::Carry(worker, _)
+            | Step::Reseat(worker, _)
+            | Step::Deliver(_, worker) => worker,
             Step::Lose(_) => 0,
         }
     }

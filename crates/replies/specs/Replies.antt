@@ -14,13 +14,14 @@ use Rattle.pack.specs.declared.sheet.PackSheet.{PackSheet}
 use Rattle.pack.specs.declared.stored.StoredPackLine.{StoredPackLine}
 use Rattle.packtext.specs.Shown.{figures_of}
 use Rattle.protocol.specs.declared.fault.Refusal.{Refusal}
+use Rattle.protocol.specs.declared.fault.StepFault.{StepFault}
 use Rattle.protocol.specs.declared.step.Answer.{Answer}
 use Rattle.protocol.specs.declared.step.Answer.TheVariants as Answers
 use Rattle.protocol.specs.Faults.{number, layer_of}
 use Rattle.protocol.specs.Runs.{History, Run, grown}
 use Rattle.protocol.specs.Promises.{Promised}
 use Rattle.protocol.specs.Store.{Store, step_after, step_answer}
-use Rattle.books.specs.declared.fault.SheetRefusal.{SheetRefusal}
+use Rattle.books.specs.declared.fault.SheetFault.{SheetFault}
 use Rattle.books.specs.Faults.{sheet_number, sheet_layer}
 use Rattle.books.specs.Sheets.{held_to, pack_sheet_to}
 use Rattle.text.specs.declared.fields.BadField.{BadField}
@@ -30,14 +31,14 @@ use Rattle.commands.specs.Commands.{command_of}
 use Rattle.replies.specs.declared.run.Reply.{Reply}
 use Rattle.replies.specs.declared.run.Reply.TheVariants.{Done, Held, Refused, Sheet}
 
-abbrev pub step_reply : Result Answer Refusal → Reply
+abbrev pub step_reply : Result Answer (Refusal StepFault) → Reply
 step_reply (Ok Answers.Done) = Done
 step_reply (Ok Answers.Held) = Held
 step_reply (Err f) = Refused (number f.fault) (layer_of f.fault)
 
-abbrev pub sheet_reply : ℕ → Result PackSheet SheetRefusal → Reply
+abbrev pub sheet_reply : ℕ → Result PackSheet (Refusal SheetFault) → Reply
 sheet_reply j (Ok s) = Sheet j (figures_of s)
-sheet_reply j (Err f) = Refused (sheet_number f.fault) (sheet_layer f)
+sheet_reply j (Err f) = Refused (sheet_number f.fault) (sheet_layer f.fault)
 
 abbrev pub sheet_of_worker : Store StoredPackLine → ℕ → Reply
 sheet_of_worker g w = sheet_reply (held_to g w) (pack_sheet_to g w (held_to g w))

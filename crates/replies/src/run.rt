@@ -4,6 +4,7 @@ ghost use Rattle.roster.specs.declared.entry.Entry.{Entry as EntryOf};
 ghost use Rattle.roster.specs.Model.{RosterModel};
 ghost use Rattle.protocol.specs.Store.{step_after, step_answer};
 ghost use Rattle.group.specs.Views.{store_of};
+ghost use Rattle.replies.specs.declared.run.Reply.TheVariants.{Refused};
 ghost use Rattle.replies.specs.Replies.{step_reply, sheet_of_worker, reply_to, store_after, reply_of, store_on, LineGoesOn};
 
 use books::{held_to, pack_sheet};
@@ -11,7 +12,7 @@ use commands::{Command, read_command};
 use group::Group;
 use pack::StoredPackLine;
 use packtext::Figures;
-use protocol::{Answer, Layer, Step};
+use protocol::{Answer, Fault, Layer, Refusal, Step};
 use roster::{Entry, Roster};
 use text::BadField;
 
@@ -28,6 +29,14 @@ pub enum Reply {
     Sheet(usize, Figures),
 }
 
+impl<F: Fault> From<Refusal<F>> for Reply {
+    ghost from_gives = { λ e r. r ≡ Refused (F.number e.fault) (F.layer e.fault) };
+
+    fn from(refusal: Refusal<F>) -> Reply {
+        Reply::Refused(refusal.fault.number(), refusal.fault.layer())
+    }
+}
+
 // Does a step.
 fn run_step<R: Roster<Entry<StoredPackLine>>>(
     group: &mut Group<'_, StoredPackLine>,
@@ -40,7 +49,7 @@ fn run_step<R: Roster<Entry<StoredPackLine>>>(
     match group.step(roster, step) {
         Ok(Answer::Done) => Reply::Done,
         Ok(Answer::Held) => Reply::Held,
-        Err(refusal) => Reply::Refused(refusal.fault.number(), refusal.fault.layer()),
+        Err(refusal) => Reply::from(refusal),
     }
 }
 
@@ -51,7 +60,7 @@ fn sheet_of(group: &Group<'_, StoredPackLine>, worker: usize) -> Reply
     let to = held_to(group, worker);
     match pack_sheet(group, worker, to) {
         Ok(sheet) => Reply::Sheet(to, Figures::from(&sheet)),
-        Err(refusal) => Reply::Refused(refusal.fault.number(), refusal.layer()),
+        Err(refusal) => Reply::from(refusal),
     }
 }
 

@@ -1,5 +1,5 @@
--- A turn applies one line more to the table, which was emptied first; where the line is missing there is no such list of lines.
-use Rattle.std.proofs.Common.{ap, rules}
+-- A turn applies one line more to the table, which was emptied first.
+use Rattle.std.proofs.Common.{◌≡◌, ◌+◌, ◌-◌, length, sym, refl, ap, ◌∙◌, subst, ap₂, arith}
 use Rattle.keylines.specs.Limits.{capacity_of}
 use Rattle.keys.specs.Views.{sheet_now, table_capacity}
 use Rattle.group.specs.Views.{store_of}
@@ -7,21 +7,57 @@ use Rattle.books.proofs.Filling.{fill_more, fill_gap}
 use Rattle.books.proofs.channels.fill.Goals as goal
 use Rattle.books.proofs.channels.fill.Goals.{in-Some, in_default}
 
-pub loop-i-preserved : goal.loop-i-preserved
-loop-i-preserved g c =
-    let k = g.K.PartialEq.eq in
-    let size = table_capacity c.clear.new.self in
-    let before = c.loop-i.table in
+pub loop-k-init : goal.loop-k-init
+loop-k-init g c =
+    let t = c.clear.new.self in
+    record {
+      within = omega arith;
+      filled = λ m. fill_start g.K.PartialEq.eq (table_capacity t) (store_of c.args.group.now m) c.args.worker (sheet_now t c.new-sheet.result)
+          (ap₂ (λ ps s. record { pairs = ps; fit = s.fit; unfit = s.unfit }) c.clear.ensures.after c.new-sheet.ensures);
+      slice = slice_same t t refl refl;
+    }
+
+pub loop-k-preserved : goal.loop-k-preserved
+loop-k-preserved g c =
+    let alike = g.K.PartialEq.eq in
+    let first = c.clear.new.self in
+    let k = c.loop-k.k in
+    let before = c.loop-k.table in
     let after = c.match-line.table in
-    let inv = c.loop-i.invariant in
+    let inv = c.loop-k.invariant in
     elim c.match-line.branch [
-      | in-Some w ↦ (
-        λ m. fill_more k size (store_of c.args.group.now m) c.args.worker c.loop-i.i (table_capacity before) (sheet_now before c.loop-i.sheet) (sheet_now after c.match-line.sheet) w.in-Some.line
-            (inv.0 m) (w.in-Some.ensures m) (ap capacity_of inv.1.size) (search rules),
-        search rules,
-      )
-      | in_default w ↦ (
-        λ m. fill_gap k size (store_of c.args.group.now m) c.args.worker c.loop-i.i (sheet_now after c.match-line.sheet) (w.in_default.ensures m),
-        search rules,
-      )
+      | in-Some w ↦ record {
+        within = omega arith;
+        filled = λ m. fill_more alike (table_capacity first) (store_of c.args.group.now m) c.args.worker k (k + 1 - 1) (table_capacity before) (sheet_now before c.loop-k.sheet) (sheet_now after c.match-line.sheet) w.in-Some.line
+            c.loop-k.auto.k (omega arith) (inv.filled m) (w.in-Some.ensures m) (ap capacity_of inv.slice.size) (ap₂ sheet_now w.table-is w.sheet-is ∙ w.apply.ensures.after);
+        slice = slice_on first before after inv.slice (subst (SameSlice before) (sym w.table-is) w.apply.ensures.slice);
+      }
+      | in_default w ↦ record {
+        within = omega arith;
+        filled = λ m. fill_gap alike (table_capacity first) (store_of c.args.group.now m) c.args.worker k (k + 1 - 1) (sheet_now after c.match-line.sheet) c.loop-k.auto.k (omega arith) (w.in_default.ensures m);
+        slice = subst (SameSlice first) (sym w.table-is) inv.slice;
+      }
     ]
+
+pub returns-clause-after : goal.returns-clause-after
+returns-clause-after g c m ls e =
+    let same : c.loop-k.k - 1 ≡ c.args.to = omega arith in
+    let size : table_capacity c.clear.new.self ≡ table_capacity c.args.table.now = ap (λ xs. capacity_of (length xs)) c.clear.ensures.same in
+    c.loop-k.invariant.filled m ls (ap (book_to (store_of c.args.group.now m) c.args.worker) same ∙ e) ∙ ap (λ n. sheet_of g.K.PartialEq.eq n ls) size
+
+pub returns-after-line-clause-after : goal.returns-after-line-clause-after
+returns-after-line-clause-after g c m ls e =
+    let alike = g.K.PartialEq.eq in
+    let first = c.clear.new.self in
+    let k = c.loop-k.k in
+    let before = c.loop-k.table in
+    let after = c.match-line.table in
+    let inv = c.loop-k.invariant in
+    let size : table_capacity first ≡ table_capacity c.args.table.now = ap (λ xs. capacity_of (length xs)) c.clear.ensures.same in
+    let filled : sheet_now after c.match-line.sheet ≡ sheet_of alike (table_capacity first) ls =
+    elim c.match-line.branch [
+      | in-Some w ↦ fill_more alike (table_capacity first) (store_of c.args.group.now m) c.args.worker k c.args.to (table_capacity before) (sheet_now before c.loop-k.sheet) (sheet_now after c.match-line.sheet) w.in-Some.line
+          c.loop-k.auto.k (omega arith) (inv.filled m) (w.in-Some.ensures m) (ap capacity_of inv.slice.size) (ap₂ sheet_now w.table-is w.sheet-is ∙ w.apply.ensures.after) ls e
+      | in_default w ↦ fill_gap alike (table_capacity first) (store_of c.args.group.now m) c.args.worker k c.args.to (sheet_now after c.match-line.sheet) c.loop-k.auto.k (omega arith) (w.in_default.ensures m) ls e
+    ] in
+    filled ∙ ap (λ n. sheet_of alike n ls) size

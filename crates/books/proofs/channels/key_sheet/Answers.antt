@@ -1,4 +1,4 @@
--- Workers that hold the lines hold equal lines.
+-- Equal sheets follow from the promises of every run.
 use Rattle.keys.specs.Views.{table_capacity}
 use Rattle.group.specs.Views.{store_of}
 use Rattle.books.proofs.Alike.{equal_keys}

@@ -1,12 +1,8 @@
--- By the law of all steps, from what the inner step did to each part.
-use Rattle.std.proofs.Common.{ap}
+-- The run goes on by the step that was done.
+use Rattle.std.proofs.Common.{rules}
 use Rattle.protocol.specs.declared.step.Step.TheVariants.{Read}
-use Rattle.protocol.specs.Store.{plainly}
-use Rattle.protocol.proofs.Chain.{done}
+use Rattle.protocol.proofs.Chain.{goes_on}
 use Rattle.group.proofs.state.Group.read.Goals as goal
 
-pub returns : goal.returns
-returns g c =
-    let e = c.read-done.ensures in
-    let s = done (Read c.args.w) _ _ c.read-done.result c.told_done.result (ap plainly e.value) c.told_done.ensures e.after in
-    record { value = s.value; after = s.after; promise = s.promise }
+pub returns-clause-promise : goal.returns-clause-promise
+returns-clause-promise g c = goes_on (Read c.args.w) _ _ (search rules)

@@ -9,6 +9,9 @@ use crate::bytes::{letter_of, number_of, number32_of, run_length};
 use std::fmt;
 use std::marker::Model;
 
+// The most bytes of a line.
+const LINE_MOST: usize = 80;
+
 // The place, counted from 1, of the first byte of the first field that is wrong, empty, missing or
 // too many. A missing field counts as one space after the last.
 #[derive(Clone, Copy, PartialEq, Eq, Debug)]
@@ -39,9 +42,6 @@ impl<'a> Model for Fields<'a> {
 
     ghost invariant = { λ f. f.next ≤ length f.line.now + 1 };
 }
-
-// The most bytes of a line.
-const LINE_MOST: usize = 80;
 
 // Refuses a line of more than 80 bytes, at the place 81.
 pub fn check_length(line: &[u8]) -> Result<(), BadField>

@@ -1,6 +1,12 @@
 -- The letter's rule is what the constructor makes of the numbers.
-use Rattle.protocol.specs.declared.step.Step.TheVariants.{Prepare, Carry, Reseat, Lose}
+use Rattle.protocol.specs.declared.step.Step.TheVariants.{Read, Lead, Prepare, Carry, Reseat, Lose}
 use Rattle.commands.proofs.read.take_step.Goals as goal
+
+pub returns-in-R : goal.returns-in-R
+returns-in-R c = rw c.in-R.is (c.take_one-in-R.ensures Read (λ n r h. h))
+
+pub returns-in-L : goal.returns-in-L
+returns-in-L c = rw c.in-L.is (c.take_one-in-L.ensures Lead (λ n r h. h))
 
 pub returns-in-P : goal.returns-in-P
 returns-in-P c = rw c.in-P.is (c.take_one-in-P.ensures Prepare (λ n r h. h))

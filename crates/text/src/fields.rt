@@ -5,7 +5,6 @@ ghost use Rattle.text.specs.Shown.{bad_text};
 mod reads;
 
 pub use reads::check_length;
-
 use std::fmt;
 
 // The place, counted from 1, of the first byte of the first field that is wrong, empty, missing or

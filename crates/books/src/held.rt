@@ -6,9 +6,7 @@ ghost use Rattle.group.specs.Views.{store_of};
 ghost use Rattle.books.specs.Sheets.{HeldTo, held_to};
 
 use group::Group;
-
-// The lines (log entries) of a book.
-const LINES: usize = 64;
+use protocol::LINES;
 
 // The number of the last line (log entry) that a worker (replica) holds with none missing before it, or 0.
 pub fn held_to<L: Copy>(group: &Group<'_, L>, worker: usize) -> usize

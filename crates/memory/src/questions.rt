@@ -5,8 +5,7 @@ ghost use Rattle.protocol.specs.Limits.{lines};
 ghost use Rattle.protocol.specs.Lines.{in_book};
 ghost use Rattle.protocol.specs.Store.{after, must};
 
-use protocol::{StepFault, Worker};
-use tables::LINES;
+use protocol::{LINES, StepFault, Worker};
 
 // A fault where something does not hold.
 pub fn must(holds: bool, fault: StepFault) -> Result<(), StepFault>

@@ -6,17 +6,7 @@ ghost use Rattle.memory.specs.Views.{store_in, no_roster, SizedIn, HasWorker};
 
 use crate::questions::must;
 use crate::state::Memory;
-use protocol::{StepFault, Worker};
-use tables::LINES;
-
-// The fewest and the most workers of a group.
-const WORKERS_MIN: usize = 3;
-
-const WORKERS_MAX: usize = 8;
-// The fewest and the most message places.
-const MESSAGES_MIN: usize = 16;
-
-const MESSAGES_MAX: usize = 4096;
+use protocol::{LINES, MESSAGES_MAX, MESSAGES_MIN, StepFault, WORKERS_MAX, WORKERS_MIN, Worker};
 
 impl<'a, L: Copy> Memory<'a, L> {
     // Whether the sizes are right (1).

@@ -2,12 +2,14 @@
 #![tactic(auto)]
 
 mod fault;
+mod limits;
 mod message;
 mod promises;
 mod step;
 mod worker;
 
 pub use fault::{Fault, Layer, Refusal, StepFault};
+pub use limits::{LINES, MESSAGES_MAX, MESSAGES_MIN, WORKERS_MAX, WORKERS_MIN};
 pub use message::Message;
 pub use promises::{agreement, equal_sheets, origin, permanence, progress, refusals};
 pub use step::{Answer, Step};

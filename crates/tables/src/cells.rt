@@ -6,7 +6,8 @@ ghost use Rattle.protocol.specs.Store.{all_marked, cell_at, cleared, fills, line
 ghost use Rattle.tables.specs.Views.{table_of, row_of, HasRow};
 
 use crate::lent::Table;
-use crate::sets::{LINES, has};
+use crate::sets::has;
+use protocol::LINES;
 
 impl<'a, L: Copy> Table<'a, Option<L>> {
     // The cells of worker w, that of line 1 first.

@@ -8,4 +8,4 @@ mod sets;
 
 pub use lent::{LentList, Table};
 pub use reports::send_counted;
-pub use sets::{LINES, bit, has};
+pub use sets::{bit, has};

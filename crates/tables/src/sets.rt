@@ -2,8 +2,7 @@
 ghost use Rattle.std.specs.Prelude.{◌≡◌};
 ghost use Rattle.protocol.specs.Lines.{bit_of, marked};
 
-// The lines of a book, and so the cells of a worker in a table. Lines are numbered from 1.
-pub const LINES: usize = 64;
+use protocol::LINES;
 
 // The set of line k alone; empty for a number that no line has.
 pub fn bit(k: usize) -> u64

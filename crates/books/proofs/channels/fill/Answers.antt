@@ -1,26 +1,18 @@
--- A turn applies one line more to the table, which was emptied first.
-use Rattle.std.proofs.Common.{◌≡◌, ◌+◌, ◌-◌, length, sym, refl, ap, ◌∙◌, subst, ap₂, arith}
+-- A turn applies one line more to the table, which was emptied first; where the line is missing there is no such list of lines.
+use Rattle.std.proofs.Common.{◌≡◌, ◌+◌, ◌-◌, length, ap, ◌∙◌, arith, rules}
 use Rattle.keylines.specs.Limits.{capacity_of}
+use Rattle.keylines.specs.Sheets.{sheet_of}
 use Rattle.keys.specs.Views.{sheet_now, table_capacity}
+use Rattle.protocol.specs.Runs.{book_to}
 use Rattle.group.specs.Views.{store_of}
 use Rattle.books.proofs.Filling.{fill_more, fill_gap}
 use Rattle.books.proofs.channels.fill.Goals as goal
 use Rattle.books.proofs.channels.fill.Goals.{in-Some, in_default}
 
-pub loop-k-init : goal.loop-k-init
-loop-k-init g c =
-    let t = c.clear.new.self in
-    record {
-      within = omega arith;
-      filled = λ m. fill_start g.K.PartialEq.eq (table_capacity t) (store_of c.args.group.now m) c.args.worker (sheet_now t c.new-sheet.result)
-          (ap₂ (λ ps s. record { pairs = ps; fit = s.fit; unfit = s.unfit }) c.clear.ensures.after c.new-sheet.ensures);
-      slice = slice_same t t refl refl;
-    }
-
 pub loop-k-preserved : goal.loop-k-preserved
 loop-k-preserved g c =
-    let alike = g.K.PartialEq.eq in
-    let first = c.clear.new.self in
+    let eq = g.K.PartialEq.eq in
+    let size = table_capacity c.clear.new.self in
     let k = c.loop-k.k in
     let before = c.loop-k.table in
     let after = c.match-line.table in
@@ -28,14 +20,14 @@ loop-k-preserved g c =
     elim c.match-line.branch [
       | in-Some w ↦ record {
         within = omega arith;
-        filled = λ m. fill_more alike (table_capacity first) (store_of c.args.group.now m) c.args.worker k (k + 1 - 1) (table_capacity before) (sheet_now before c.loop-k.sheet) (sheet_now after c.match-line.sheet) w.in-Some.line
-            c.loop-k.auto.k (omega arith) (inv.filled m) (w.in-Some.ensures m) (ap capacity_of inv.slice.size) (ap₂ sheet_now w.table-is w.sheet-is ∙ w.apply.ensures.after);
-        slice = slice_on first before after inv.slice (subst (SameSlice before) (sym w.table-is) w.apply.ensures.slice);
+        filled = λ m. fill_more eq size (store_of c.args.group.now m) c.args.worker k (k + 1 - 1) (table_capacity before) (sheet_now before c.loop-k.sheet) (sheet_now after c.match-line.sheet) w.in-Some.line
+            c.loop-k.auto.k (omega arith) (inv.filled m) (w.in-Some.ensures m) (ap capacity_of inv.slice.size) (search rules);
+        slice = search rules;
       }
       | in_default w ↦ record {
         within = omega arith;
-        filled = λ m. fill_gap alike (table_capacity first) (store_of c.args.group.now m) c.args.worker k (k + 1 - 1) (sheet_now after c.match-line.sheet) c.loop-k.auto.k (omega arith) (w.in_default.ensures m);
-        slice = subst (SameSlice first) (sym w.table-is) inv.slice;
+        filled = λ m. fill_gap eq size (store_of c.args.group.now m) c.args.worker k (k + 1 - 1) (sheet_now after c.match-line.sheet) c.loop-k.auto.k (omega arith) (w.in_default.ensures m);
+        slice = search rules;
       }
     ]
 
@@ -47,17 +39,17 @@ returns-clause-after g c m ls e =
 
 pub returns-after-line-clause-after : goal.returns-after-line-clause-after
 returns-after-line-clause-after g c m ls e =
-    let alike = g.K.PartialEq.eq in
+    let eq = g.K.PartialEq.eq in
     let first = c.clear.new.self in
     let k = c.loop-k.k in
     let before = c.loop-k.table in
     let after = c.match-line.table in
     let inv = c.loop-k.invariant in
     let size : table_capacity first ≡ table_capacity c.args.table.now = ap (λ xs. capacity_of (length xs)) c.clear.ensures.same in
-    let filled : sheet_now after c.match-line.sheet ≡ sheet_of alike (table_capacity first) ls =
+    let filled : sheet_now after c.match-line.sheet ≡ sheet_of eq (table_capacity first) ls =
     elim c.match-line.branch [
-      | in-Some w ↦ fill_more alike (table_capacity first) (store_of c.args.group.now m) c.args.worker k c.args.to (table_capacity before) (sheet_now before c.loop-k.sheet) (sheet_now after c.match-line.sheet) w.in-Some.line
-          c.loop-k.auto.k (omega arith) (inv.filled m) (w.in-Some.ensures m) (ap capacity_of inv.slice.size) (ap₂ sheet_now w.table-is w.sheet-is ∙ w.apply.ensures.after) ls e
-      | in_default w ↦ fill_gap alike (table_capacity first) (store_of c.args.group.now m) c.args.worker k c.args.to (sheet_now after c.match-line.sheet) c.loop-k.auto.k (omega arith) (w.in_default.ensures m) ls e
+      | in-Some w ↦ fill_more eq (table_capacity first) (store_of c.args.group.now m) c.args.worker k c.args.to (table_capacity before) (sheet_now before c.loop-k.sheet) (sheet_now after c.match-line.sheet) w.in-Some.line
+          c.loop-k.auto.k (omega arith) (inv.filled m) (w.in-Some.ensures m) (ap capacity_of inv.slice.size) (search rules) ls e
+      | in_default w ↦ fill_gap eq (table_capacity first) (store_of c.args.group.now m) c.args.worker k c.args.to (sheet_now after c.match-line.sheet) c.loop-k.auto.k (omega arith) (w.in_default.ensures m) ls e
     ] in
-    filled ∙ ap (λ n. sheet_of alike n ls) size
+    filled ∙ ap (λ n. sheet_of eq n ls) size

@@ -27,7 +27,7 @@ pub loop-k-preserved : goal.loop-k-preserved
 loop-k-preserved c = record {
   within = omega arith;
   worked = λ m.
-      ap Ok (c.apply.ensures.after ∙ ap (applied c.loop-k.sheet) c.restored.ensures.value)
+      ap Ok (c.apply.ensures.after ∙ ap (applied c.loop-k.sheet) c.into.ensures.value)
       ∙ works_on packs_of (λ s l. applied s (restored_of l)) packs_last (store_of c.args.group.now m) c.args.worker c.loop-k.k (c.loop-k.k + 1 - 1) c.loop-k.sheet c.in_ok-line.line c.loop-k.auto.k (omega arith) (c.loop-k.invariant.worked m) (sym c.in_ok-line.ensures.ok_part ∙ c.line.ensures m);
 }
 
@@ -39,5 +39,5 @@ returns-in_ok-ask c m =
 pub returns-in_ok-line : goal.returns-in_ok-line
 returns-in_ok-line c m =
     all-worked packs_of (store_of c.args.group.now m) c.args.worker c.args.to c.args.to c.apply.new.self (c.in_ok-ask.ensures m) refl
-    (ap Ok (c.apply.ensures.after ∙ ap (applied c.loop-k.sheet) c.restored.ensures.value)
+    (ap Ok (c.apply.ensures.after ∙ ap (applied c.loop-k.sheet) c.into.ensures.value)
     ∙ works_on packs_of (λ s l. applied s (restored_of l)) packs_last (store_of c.args.group.now m) c.args.worker c.loop-k.k c.args.to c.loop-k.sheet c.in_ok-line.line c.loop-k.auto.k (omega arith) (c.loop-k.invariant.worked m) (sym c.in_ok-line.ensures.ok_part ∙ c.line.ensures m))

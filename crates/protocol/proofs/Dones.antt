@@ -1,5 +1,5 @@
 -- What a step does to the store, it does to what the store says.
-use Rattle.std.proofs.Common.{◌≡◌, ℕ, zero, suc, ◌-◌, ◌*◌, ◌<◌, true, eqb, ltb, List, [], ◌∷◌, ◌++◌, length, take, set, Some, None, Err, Option, sym, refl, ap, ◌∙◌, ap₂, add-one, arith, length-set}
+use Rattle.std.proofs.Common.{◌≡◌, ℕ, zero, suc, ◌-◌, ◌*◌, ◌<◌, true, eqb, ltb, List, [], ◌∷◌, ◌++◌, length, take, set, Some, None, Err, Option, sym, refl, ap, ◌∙◌, ap₂, add-one, arith, length-set, is_some}
 use mathlib.Core.Path.{fun_ext}
 use Rattle.std.specs.Option.{option_eq}
 use Rattle.std.proofs.lemmas.Bool.{cond-true, cond_both, ltb-true, and_parts}
@@ -17,7 +17,7 @@ use Rattle.protocol.proofs.Put.{put}
 use Rattle.protocol.proofs.Roles.{Seated, Leader, sits, read_lead, read_seat, read_carry, leads, carries, takes, settle, counts, accepts, reports as reports-to}
 use Rattle.protocol.proofs.Msg.{Msg}
 use Rattle.protocol.proofs.Msg.Msg.{promise, learn}
-use Rattle.protocol.proofs.Model.{is_some, nth, asks, does, with_leader, with_seated, with_held, with_msgs, send, reads, proposes, carrying, delivers, lose_at, report_all, fills as fills-in}
+use Rattle.protocol.proofs.Model.{nth, asks, does, with_leader, with_seated, with_held, with_msgs, send, reads, proposes, carrying, delivers, lose_at, report_all, fills as fills-in}
 use Rattle.protocol.specs.Items.{item_at}
 use Rattle.protocol.specs.Lines.{in_book, marked, bit_of, cell_of}
 use lib.Bits.{bit_or}

@@ -1,5 +1,5 @@
 -- From every run there is a way to every line.
-use Rattle.std.proofs.Common.{◌≡◌, ℕ, zero, suc, ◌+◌, ◌-◌, ◌<◌, ◌≤◌, true, false, ◌⊎◌, List, [], ◌∷◌, length, Some, None, Option, refl, ap, ◌∙◌, subst, inl, inr, ⊎_elim, arith}
+use Rattle.std.proofs.Common.{◌≡◌, ℕ, zero, suc, ◌+◌, ◌-◌, ◌<◌, ◌≤◌, true, false, ◌⊎◌, List, [], ◌∷◌, length, Some, None, Option, refl, ap, ◌∙◌, subst, inl, inr, ⊎_elim, arith, is_some}
 use Rattle.std.proofs.lemmas.Bool.{both_ways, lt-ltb}
 use Rattle.roster.specs.declared.entry.Entry.{Entry}
 use Rattle.protocol.specs.Words.{At, Newest, accepted-under, under}
@@ -7,15 +7,15 @@ use Rattle.roster.specs.declared.entry.Entry.TheVariants.{Lead as lead, Seat as 
 use Rattle.protocol.proofs.Places.{at_low, at_high, same_seat}
 use Rattle.protocol.proofs.Inv.{Facts, NoSeat, Upto}
 use Rattle.protocol.proofs.Roles.{Leader, sits}
-use Rattle.protocol.proofs.Tools.{seat?, put_here, side}
+use Rattle.protocol.proofs.Tools.{seat?, put_here, side, some_is, not_none}
 use Rattle.protocol.specs.declared.step.Step.{Step}
-use Rattle.protocol.proofs.Model.{State, is_some, nth, does, reads, filled, Way, Progress, SomeSeat}
+use Rattle.protocol.proofs.Model.{State, nth, does, reads, filled, Way, Progress, SomeSeat}
 use Rattle.protocol.specs.declared.step.Step.TheVariants.{Read, Propose}
 use Rattle.protocol.proofs.Prepare.{sits_ok}
 use Rattle.protocol.proofs.TakeUp.{tally_part}
 use Rattle.protocol.proofs.Sound.{Sound, Extra}
-use Rattle.protocol.proofs.Steps.{some_is, read_sound}
-use Rattle.protocol.proofs.Way.{Reach, reach_step, reach_as, lead_way, nth_some, not_none}
+use Rattle.protocol.proofs.Steps.{read_sound}
+use Rattle.protocol.proofs.Way.{Reach, reach_step, reach_as, lead_way, nth_some}
 use Rattle.protocol.proofs.Safe.{run_lives}
 
 module _ {L : Type 0} where

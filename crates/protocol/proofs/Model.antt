@@ -1,5 +1,5 @@
 -- The group as functions from worker and line numbers, and its nine steps on that: the model that the proofs are about.
-use Rattle.std.proofs.Common.{◌≡◌, ℕ, zero, suc, ◌+◌, ◌-◌, ◌<◌, ◌≤◌, Bool, true, false, cond, not, ◌&&◌, ◌||◌, eqb, ltb, leb, List, [], ◌∷◌, ◌++◌, length, take, set, Some, None, Option}
+use Rattle.std.proofs.Common.{◌≡◌, ℕ, zero, suc, ◌+◌, ◌-◌, ◌<◌, ◌≤◌, Bool, true, false, cond, not, ◌&&◌, ◌||◌, eqb, ltb, leb, List, [], ◌∷◌, ◌++◌, length, take, set, Some, None, Option, is_some}
 use Rattle.roster.specs.declared.entry.Entry.{Entry}
 use Rattle.protocol.specs.Words.{tally, Proposed, accepted-under, proposals, Newest}
 use Rattle.roster.specs.declared.entry.Entry.TheVariants.{Lead as lead, Seat as seat, Carry as carry}
@@ -9,10 +9,6 @@ use Rattle.protocol.proofs.Msg.{Msg}
 use Rattle.protocol.proofs.Msg.Msg.{prepare, proposal, promise, report, learn}
 use Rattle.protocol.proofs.Put.{put}
 use Rattle.protocol.proofs.Roles.{Seated, Leader, read_lead, read_seat, read_carry, leads, carries, takes, settle, counts, reports, sits, accepts}
-
-abbrev pub is_some : {X : Type 0} → Option X → Bool
-is_some None = false
-is_some (Some x) = true
 
 abbrev pub nth : {X : Type 0} → List X → ℕ → Option X
 nth [] i = None

@@ -1,5 +1,5 @@
 -- A step of the store is refused exactly where the state's is, with the same number.
-use Rattle.std.proofs.Common.{◌≡◌, ℕ, zero, suc, ◌+◌, ◌-◌, ◌*◌, ◌<◌, ◌≤◌, Bool, true, false, cond, not, ◌&&◌, eqb, ltb, List, [], ◌∷◌, ◌++◌, length, get_or, Some, None, Ok, Err, Option, Result, sym, refl, ap, ◌∙◌, ap₂, add-one, arith}
+use Rattle.std.proofs.Common.{◌≡◌, ℕ, zero, suc, ◌+◌, ◌-◌, ◌*◌, ◌<◌, ◌≤◌, Bool, true, false, cond, not, ◌&&◌, eqb, ltb, List, [], ◌∷◌, ◌++◌, length, get_or, Some, None, Ok, Err, Option, Result, sym, refl, ap, ◌∙◌, ap₂, add-one, arith, is_some}
 use lib.Dec.{leb-suc-zero, leb-suc-suc}
 use Rattle.std.proofs.lemmas.Bool.{both_ways, and_from, le-leb, lt-ltb, eq-eqb, ne_eqb, cond-true, cond-false, ltb-true}
 use Rattle.roster.specs.declared.fault.RosterFault.{RosterFault}
@@ -15,7 +15,7 @@ use Rattle.protocol.specs.declared.message.Message.TheVariants.{Prepare as Prepa
 use Rattle.protocol.specs.declared.step.Answer.{Answer}
 use Rattle.protocol.specs.declared.step.Step.{Step}
 use Rattle.protocol.specs.declared.step.Step.TheVariants.{Found, Read, Lead, Prepare, Propose, Carry, Reseat, Deliver, Lose}
-use Rattle.protocol.proofs.Model.{Asks, refusal, is_some, nth, asks, appending, delivering, line_ok, leader_all_marked, report_all, report_line}
+use Rattle.protocol.proofs.Model.{Asks, refusal, nth, asks, appending, delivering, line_ok, leader_all_marked, report_all, report_line}
 use Rattle.protocol.specs.Faults.{number}
 use Rattle.protocol.specs.Items.{item_at}
 use Rattle.protocol.specs.Lines.{in_book, marked}

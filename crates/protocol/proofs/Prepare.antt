@@ -1,15 +1,14 @@
 -- A Prepare comes to a seat: its promise grows, and it answers.
-use Rattle.std.proofs.Common.{◌≡◌, ℕ, ◌≤◌, true, false, ltb, List, Some, None, Option, sym, refl, subst, inl, inr, ⊎_elim, arith}
-use Rattle.std.proofs.lemmas.Bool.{ltb-true, ltb-false, cond_both, both_ways}
+use Rattle.std.proofs.Common.{◌≡◌, ℕ, ◌≤◌, false, ltb, List, Some, None, sym, refl, subst, inl, inr, ⊎_elim, arith, is_some}
+use Rattle.std.proofs.lemmas.Bool.{ltb-true, ltb-false, cond_both}
 use Rattle.roster.specs.declared.entry.Entry.{Entry}
 use Rattle.protocol.specs.Words.{At, tally}
 use Rattle.roster.specs.declared.entry.Entry.TheVariants.{Seat as seat}
 use Rattle.protocol.proofs.Inv.{Facts, Counts, SeatedOk, MsgOk, Upto, HasPromised, NoLongerAccepts, Global, LeaderOk}
 use Rattle.protocol.proofs.Msg.{Msg}
 use Rattle.protocol.proofs.Msg.Msg.{prepare, proposal, promise, report, learn}
-use Rattle.protocol.proofs.Model.{is_some}
 use Rattle.protocol.proofs.Roles.{Seated, Leader, sits}
-use Rattle.protocol.proofs.Tools.{none_not_some, upto_trans, under_trans, upto_tied}
+use Rattle.protocol.proofs.Tools.{none_not_some, upto_trans, under_trans, upto_tied, some_is, not_none}
 
 -- the promises grow
 module _ {L : Type 0} (B B' : ℕ → Seated L) (up : (y : ℕ) → Upto (B y).s (B y).p (B' y).s (B' y).p) where
@@ -70,14 +69,6 @@ module _ {L : Type 0} (R : List (Entry L)) (P A : Facts L) (B B' : ℕ → Seate
   up_msg (promise to f d n) h = (h.0, h.1, up_past B B' up h.2, h.3, h.4)
   up_msg (report to f d j m) h = h
   up_msg (learn j m) h = h
-
-some_is : {X : Type 0} (o : Option X) → is_some o ≡ true → (x : X) × (o ≡ Some x)
-some_is None h = absurd (both_ways false refl h)
-some_is (Some x) h = (x, refl)
-
-not_none : {X : Type 0} (o : Option X) → (o ≡ None → ⊥) → is_some o ≡ true
-not_none None h = absurd (h refl)
-not_none (Some x) h = refl
 
 module _ {L : Type 0} {R : List (Entry L)} {P A : Facts L} {B : ℕ → Seated L} (g : Global R P A B)
     {x e c : ℕ} (seated : At R e (seat x)) (timely : Upto (B x).s (B x).p e c) (ok : SeatedOk R A x (B x)) where

@@ -1,5 +1,5 @@
 -- A run of the store is a run of the state, and so what holds of those holds of these.
-use Rattle.std.proofs.Common.{◌≡◌, ℕ, zero, suc, ◌+◌, ◌-◌, ◌*◌, ◌≤◌, Bool, true, false, cond, ltb, List, [], ◌∷◌, length, get_or, replicate, is_ok, Some, None, Ok, Err, Option, Result, sym, refl, ap, ◌∙◌, subst, ap₂, arith}
+use Rattle.std.proofs.Common.{◌≡◌, ℕ, zero, suc, ◌+◌, ◌-◌, ◌*◌, ◌≤◌, Bool, true, false, cond, ltb, List, [], ◌∷◌, length, get_or, replicate, is_ok, Some, None, Ok, Err, Option, Result, sym, refl, ap, ◌∙◌, subst, ap₂, arith, is_some}
 use mathlib.Core.Path.{fun_ext}
 use lib.ListN.{length-replicate}
 use Rattle.std.proofs.lemmas.Bool.{cond_both, cond-true}
@@ -11,7 +11,7 @@ use Rattle.protocol.specs.declared.step.Answer.{Answer}
 use Rattle.protocol.specs.declared.step.Answer.TheVariants.{Done, Held}
 use Rattle.protocol.specs.declared.step.Step.{Step}
 use Rattle.protocol.specs.declared.step.Step.TheVariants.{Found, Read, Lead, Prepare, Propose, Carry, Reseat, Deliver, Lose}
-use Rattle.protocol.proofs.Model.{Said, refusal, is_some, asks, does, answer, made, note, mark, accepted_by, either_way, finish, after as after-state, Run as StateRun, Clear as StateClear, Way as StateWay}
+use Rattle.protocol.proofs.Model.{Said, refusal, asks, does, answer, made, note, mark, accepted_by, either_way, finish, after as after-state, Run as StateRun, Clear as StateClear, Way as StateWay}
 use Rattle.protocol.proofs.Model.Said.{Ok as Okay, Held as Kept, No}
 use Rattle.protocol.proofs.Model.Run.{start as start-state, next as next-state, owner as owner-state}
 use Rattle.roster.specs.Model.{RosterState}

@@ -1,5 +1,5 @@
 -- Every run is sound, and so its workers agree.
-use Rattle.std.proofs.Common.{◌≡◌, ℕ, suc, ◌<◌, ◌≤◌, Bool, true, false, not, ◌&&◌, eqb, ltb, List, [], ◌∷◌, ◌++◌, length, Some, None, Option, sym, refl, ◌∙◌, subst, inl, inr, ⊎_elim, arith}
+use Rattle.std.proofs.Common.{◌≡◌, ℕ, suc, ◌<◌, ◌≤◌, Bool, true, false, not, ◌&&◌, eqb, ltb, List, [], ◌∷◌, ◌++◌, length, Some, None, Option, sym, refl, ◌∙◌, subst, inl, inr, ⊎_elim, arith, is_some}
 use Rattle.std.proofs.lemmas.Bool.{both_ways, ltb-true, eqb-true, eq-eqb, not-true, and_parts, or_cases, or_left, or_right, and_from}
 use Rattle.roster.specs.declared.entry.Entry.{Entry}
 use Rattle.protocol.specs.Words.{At, Proposed, under}
@@ -10,16 +10,16 @@ use Rattle.protocol.proofs.Msg.{Msg}
 use Rattle.protocol.proofs.Msg.Msg.{prepare, proposal, promise, report, learn}
 use Rattle.protocol.proofs.Put.{put}
 use Rattle.protocol.proofs.Roles.{Seated, Leader, settle, counts, reports, sits, accepts}
-use Rattle.protocol.proofs.Tools.{put_both, none_not_some, some_same, add_case, side, order, weaker}
+use Rattle.protocol.proofs.Tools.{put_both, none_not_some, some_same, add_case, side, order, weaker, some_is}
 use Rattle.protocol.specs.declared.step.Step.{Step}
-use Rattle.protocol.proofs.Model.{State, refusal, is_some, nth, asks, does, answers, answer, after, note, made, mark, accepted_by, Run, Agreement, with_seated, with_msgs, proposes, carrying, fills, delivers, delivering, leader_timely_to, either_way}
+use Rattle.protocol.proofs.Model.{State, refusal, nth, asks, does, answers, answer, after, note, made, mark, accepted_by, Run, Agreement, with_seated, with_msgs, proposes, carrying, fills, delivers, delivering, leader_timely_to, either_way}
 use Rattle.protocol.specs.declared.step.Step.TheVariants.{Found, Read, Lead, Prepare, Propose, Carry, Reseat, Deliver, Lose}
 use Rattle.protocol.proofs.Model.Said.{No}
 use Rattle.protocol.proofs.Model.Run.{start, next, owner}
 use Rattle.protocol.proofs.Append.{carry_is_seat, seat_is_lead}
 use Rattle.protocol.proofs.TakeUp.{settle_ok, count_ok, report_ok}
 use Rattle.protocol.proofs.Sound.{Sound, Extra, Lives, Passed, passed, each_nth, leader_sound}
-use Rattle.protocol.proofs.Steps.{line_range, some_is, timely_order, timely_parts, found_sound, read_sound, lead_sound, carry_sound, reseat_sound, prepare_sound, lose_sound}
+use Rattle.protocol.proofs.Steps.{line_range, timely_order, timely_parts, found_sound, read_sound, lead_sound, carry_sound, reseat_sound, prepare_sound, lose_sound}
 use Rattle.protocol.proofs.Sends.{propose_sound, prepared_sound, accepted_sound}
 
 module _ {L : Type 0} {A : Facts L} {g : State L} where

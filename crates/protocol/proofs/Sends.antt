@@ -1,5 +1,5 @@
 -- A Propose and a delivery keep what holds.
-use Rattle.std.proofs.Common.{◌≡◌, ℕ, zero, suc, ◌<◌, ◌≤◌, true, cond, List, ◌∷◌, Some, None, Option, sym, refl, subst, inl, inr, ⊎_elim}
+use Rattle.std.proofs.Common.{◌≡◌, ℕ, zero, suc, ◌<◌, ◌≤◌, true, cond, List, ◌∷◌, Some, None, Option, sym, refl, subst, inl, inr, ⊎_elim, is_some}
 use Rattle.protocol.specs.Words.{At, Proposed}
 use Rattle.roster.specs.declared.entry.Entry.TheVariants.{Seat as seat}
 use Rattle.protocol.proofs.Inv.{Facts, Add, SeatedOk, MsgOk, Upto, HasPromised, LeaderOk}
@@ -7,7 +7,7 @@ use Rattle.protocol.proofs.Msg.Msg.{prepare, proposal, report}
 use Rattle.protocol.proofs.Put.{put}
 use Rattle.protocol.proofs.Roles.{Seated, Leader, takes, sits, accepts}
 use Rattle.protocol.proofs.Tools.{put_both, put_here, none_not_some, some_same, same?, add_case, upto_refl}
-use Rattle.protocol.proofs.Model.{State, is_some, note, proposes, delivers, report_line, report_all}
+use Rattle.protocol.proofs.Model.{State, note, proposes, delivers, report_line, report_all}
 use Rattle.protocol.specs.declared.step.Step.TheVariants.{Propose}
 use Rattle.protocol.proofs.Model.Said.{Ok, Held}
 use Rattle.protocol.proofs.Propose.{propose_global, propose_msg, propose_sends, propose_others, propose_own}

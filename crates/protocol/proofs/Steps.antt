@@ -1,5 +1,5 @@
 -- Each step that is not refused keeps what holds.
-use Rattle.std.proofs.Common.{◌≡◌, ℕ, zero, suc, ◌-◌, ◌<◌, ◌≤◌, true, false, cond, not, ◌&&◌, ◌||◌, eqb, ltb, leb, List, [], ◌∷◌, ◌++◌, length, set, Some, None, Option, sym, refl, ap, ◌∙◌, subst, ⊎_elim, arith}
+use Rattle.std.proofs.Common.{◌≡◌, ℕ, zero, suc, ◌-◌, ◌<◌, ◌≤◌, true, false, cond, not, ◌&&◌, ◌||◌, eqb, ltb, leb, List, [], ◌∷◌, ◌++◌, length, set, Some, None, Option, sym, refl, ap, ◌∙◌, subst, ⊎_elim, arith, is_some}
 use Rattle.std.proofs.lemmas.Bool.{both_ways, ltb-true, ltb-false, leb-true, eqb-true, eq-eqb, not-true, and_parts, or_parts, and_cases, cond_both}
 use Rattle.roster.specs.declared.entry.Entry.{Entry}
 use Rattle.protocol.specs.Words.{At, Proposed, Stands}
@@ -10,7 +10,7 @@ use Rattle.protocol.proofs.Msg.{Msg}
 use Rattle.protocol.proofs.Msg.Msg.{prepare}
 use Rattle.protocol.proofs.Roles.{Seated, Leader, read_lead, read_seat, read_carry, leads, carries, sits}
 use Rattle.protocol.proofs.Tools.{put_both, none_not_some, some_same, side}
-use Rattle.protocol.proofs.Model.{State, is_some, nth, asks, does, with_leader, append, reads, lose_at, line_ok, leader_all_marked, leader_timely_at, leader_timely_to, appending}
+use Rattle.protocol.proofs.Model.{State, nth, asks, does, with_leader, append, reads, lose_at, line_ok, leader_all_marked, leader_timely_at, leader_timely_to, appending}
 use Rattle.protocol.specs.declared.step.Step.TheVariants.{Found, Read, Lead, Prepare, Reseat, Lose}
 use Rattle.protocol.proofs.Append.{fresh_lead, fresh_first, fresh_carry, fresh_seat, other_claims, carry_line, carry_is_lead, carry_is_seat}
 use Rattle.protocol.proofs.Read.{reads_lead, reads_seat, reads_carry, own_lead, own_carry, own_seat}
@@ -23,10 +23,6 @@ nth_at (x ∷ xs) (suc i) y h = nth_at xs i y h
 
 pub line_range : (k : ℕ) → line_ok k ≡ true → (0 < k) × (k ≤ 64)
 line_range k h = let z = and_parts (ltb 0 k) (leb k 64) h in (ltb-true 0 k z.0, leb-true k 64 z.1)
-
-pub some_is : {X : Type 0} (o : Option X) → is_some o ≡ true → (x : X) × (o ≡ Some x)
-some_is None h = absurd (both_ways false refl h)
-some_is (Some x) h = (x, refl)
 
 module _ {L : Type 0} where
   marked_all : (v : Leader L) (n : ℕ) → leader_all_marked v n ≡ true → (k : ℕ) → (0 < k) × (k ≤ n) → (l : L) → v.hand k ≡ Some l → v.carried k ≡ true

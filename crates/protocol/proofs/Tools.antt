@@ -1,5 +1,5 @@
 -- Case splits over facts and places.
-use Rattle.std.proofs.Common.{◌≡◌, ℕ, zero, suc, ◌<◌, ◌≤◌, eqb, ◌⊎◌, List, [], ◌∷◌, Some, None, Option, sym, refl, subst, inl, inr, ⊎_elim, arith}
+use Rattle.std.proofs.Common.{◌≡◌, ℕ, zero, suc, ◌<◌, ◌≤◌, eqb, ◌⊎◌, List, [], ◌∷◌, Some, None, Option, sym, refl, subst, inl, inr, ⊎_elim, arith, true, is_some}
 use native.Mathlib.Decide.{dec_lt, ℕ_discrete}
 use Rattle.std.proofs.lemmas.Bool.{cond_both, eqb-true, eqb-false, eq-eqb, ne_eqb, cond-true, cond-false}
 use Rattle.protocol.proofs.Put.{put}
@@ -45,6 +45,14 @@ module _ {L : Type 0} where
       go : ((y : Entry L) × Stands R p y) ⊎ ((y : Entry L) → Stands R p y → ⊥) → ((u : ℕ) × At R p (seat u)) ⊎ ((u : ℕ) → At R p (seat u) → ⊥)
       go (inl h) = by h.0 h.1
       go (inr h) = inr (λ u k. h (seat u) k.here)
+
+pub some_is : {X : Type 0} (o : Option X) → is_some o ≡ true → (x : X) × (o ≡ Some x)
+some_is None h = absurd (let z : ◌≡◌ {A = ℕ} 0 1 = cc in omega arith)
+some_is (Some x) h = (x, refl)
+
+pub not_none : {X : Type 0} (o : Option X) → (o ≡ None → ⊥) → is_some o ≡ true
+not_none None h = absurd (h refl)
+not_none (Some x) h = refl
 
 pub side : (a b : ℕ) → (a < b) ⊎ (b ≤ a)
 side a b = elim (dec_lt a b) [ yes h ↦ inl h | no h ↦ inr (omega arith) ]

@@ -1,5 +1,5 @@
 -- The way to a line: what is sent can be delivered.
-use Rattle.std.proofs.Common.{◌≡◌, ℕ, zero, suc, ◌+◌, ◌-◌, ◌<◌, ◌≤◌, Bool, true, false, not, ◌&&◌, ◌||◌, eqb, ltb, leb, List, [], ◌∷◌, ◌++◌, length, Some, None, Option, sym, refl, ap, ◌∙◌, subst, ⊎_elim, arith}
+use Rattle.std.proofs.Common.{◌≡◌, ℕ, zero, suc, ◌+◌, ◌-◌, ◌<◌, ◌≤◌, Bool, true, false, not, ◌&&◌, ◌||◌, eqb, ltb, leb, List, [], ◌∷◌, ◌++◌, length, Some, None, Option, sym, refl, ap, ◌∙◌, subst, ⊎_elim, arith, is_some}
 use Rattle.std.proofs.lemmas.Bool.{both_ways, lt-ltb, le-ltb, le-leb, ne_eqb, or_from, and_left, and_right, and_from, eq-eqb}
 use Rattle.protocol.specs.Words.{bump, proposals, puts, tally}
 use Rattle.roster.specs.declared.entry.Entry.TheVariants.{Lead as lead}
@@ -10,7 +10,7 @@ use Rattle.protocol.proofs.Put.{put}
 use Rattle.protocol.proofs.Roles.{ready, Seated, Leader, leads, settle, counts, reports, sits}
 use Rattle.protocol.proofs.Tools.{put_both, put_here, none_not_some, same?, side, upto_refl}
 use Rattle.protocol.specs.declared.step.Step.{Step}
-use Rattle.protocol.proofs.Model.{State, Asks, refusal, is_some, nth, asks, does, after, Clear, finish, with_leader, with_seated, append, send, proposes, fills, delivers, delivering, leader_timely_at, leader_timely_to, filled, report_line, report_all, either_way}
+use Rattle.protocol.proofs.Model.{State, Asks, refusal, nth, asks, does, after, Clear, finish, with_leader, with_seated, append, send, proposes, fills, delivers, delivering, leader_timely_at, leader_timely_to, filled, report_line, report_all, either_way}
 use Rattle.protocol.specs.declared.step.Step.TheVariants.{Lead, Prepare, Propose, Deliver}
 use Rattle.protocol.proofs.TakeUp.{tally-all, tally_part, tally_grows}
 use Rattle.protocol.proofs.Sound.{Passed}
@@ -42,10 +42,6 @@ module _ {X : Type 0} where
   length_both : (xs ys : List X) → length (xs ++ ys) ≡ length xs + length ys
   length_both [] ys = omega arith
   length_both (x ∷ xs) ys = let z = length_both xs ys in omega arith
-
-pub not_none : {X : Type 0} (o : Option X) → (o ≡ None → ⊥) → is_some o ≡ true
-not_none None h = absurd (h refl)
-not_none (Some x) h = refl
 
 unrefused : (qs : Asks) → Passed qs → refusal qs ≡ None
 unrefused [] h = refl

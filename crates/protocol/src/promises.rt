@@ -4,6 +4,7 @@ ghost use Rattle.std.specs.Prelude.{◌≡◌};
 ghost use Rattle.protocol.specs.Runs.{Agreement, Origin, Permanence, EqualSheets, SomeSeat, Progress, RefusalKeeps, UnmadeRefuses};
 
 // Two workers that hold a line of one number hold the same line.
+#[tactic(auto, using(crate::proofs::Kept::agreement))]
 pub fn agreement<L: Copy>(line: L) -> L
     ensures value { result ≡ line }
     ensures promise { Agreement L }
@@ -12,6 +13,7 @@ pub fn agreement<L: Copy>(line: L) -> L
 }
 
 // Each line that is held for a number was proposed for it before.
+#[tactic(auto, using(crate::proofs::Kept::origin))]
 pub fn origin<L: Copy>(line: L) -> L
     ensures value { result ≡ line }
     ensures promise { Origin L }
@@ -36,6 +38,7 @@ pub fn equal_sheets<L: Copy, S: Copy>(line: L, sheet: S) -> (L, S)
 }
 
 // Each worker outside the seat can come to hold any line, by a way of known length.
+#[tactic(auto, using(crate::proofs::Kept::progress, crate::proofs::Kept::some_seat))]
 pub fn progress<L: Copy>(line: L) -> L
     ensures value { result ≡ line }
     ensures promise { Progress L }
@@ -45,6 +48,7 @@ pub fn progress<L: Copy>(line: L) -> L
 }
 
 // A refused step changes nothing, and a group made with other sizes refuses every step.
+#[tactic(auto, using(crate::proofs::Kept::refusal_keeps, crate::proofs::Unmade::unmade_refuses))]
 pub fn refusals<L: Copy>(line: L) -> L
     ensures value { result ≡ line }
     ensures keeps { RefusalKeeps L }

@@ -21,7 +21,7 @@ returns-in_err-line c m =
     let p = err_from_is_err_and c.from_residual-in_err-line.result c.from_residual-in_err-line.ensures.1 in
     let told = e.value ∙ ap (λ o. ok_or o NotHeld) e.ok_part in
     let fault : c.in_err-line.field-0.0 ≡ NotHeld = cc in
-    rw (p.1, p.2) (ap Err fault ∙ one_missing packs_of (store_of c.args.group.now m) c.args.worker c.loop-k.k c.args.to (c.in_ok-ask.ensures m) c.loop-k.auto.k (sym e.ok_part ∙ c.line.ensures m) c.loop-k-test.true)
+    rw (p.1, p.2) (ap Err fault ∙ one_missing packs_of (store_of c.args.group.now m) c.args.worker c.loop-k.k c.args.to (c.in_ok-ask.ensures m) c.loop-k.auto.k (sym e.ok_part ∙ c.line.ensures m) (omega arith))
 
 pub loop-k-preserved : goal.loop-k-preserved
 loop-k-preserved c = record {

@@ -1,7 +1,6 @@
 -- The promise is kept.
-use Rattle.std.proofs.Common.{refl}
 use Rattle.protocol.proofs.Kept.{permanence}
 use Rattle.protocol.proofs.promises.permanence.Goals as goal
 
-pub returns : goal.returns
-returns g c = record { value = refl; promise = permanence _ }
+pub returns-clause-promise : goal.returns-clause-promise
+returns-clause-promise g c = permanence _

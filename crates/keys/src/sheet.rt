@@ -8,7 +8,8 @@ ghost use Rattle.keys.specs.Views.{SameSlice, no_lines, one_more, table_capacity
 use crate::table::KeyTable;
 use keylines::{ChannelLine, Key};
 
-// How many channel lines were fit and unfit for the table that they were applied to.
+// How many channel lines were fit and unfit for the table that they were applied to. A pack sheet has two such counts
+// beside its charge; neither sheet knows of the other, and two numbers are no reason for a crate below both.
 #[derive(Clone, Copy, PartialEq, Eq, Debug, Default)]
 pub struct KeySheet {
     fit: u32,

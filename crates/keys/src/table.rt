@@ -12,6 +12,7 @@ use keylines::{ChannelLine, Key, OrderedKey, Pair};
 const PLACES_MAX: usize = 1024;
 
 // A table of pairs with distinct keys, in the first `used` places of a lent slice.
+// Its memory is its caller's, so it is a slice with a length beside it and no vector.
 #[derive(Drop)]
 pub struct KeyTable<'a, K> {
     pairs: &'a mut [Pair<K>],

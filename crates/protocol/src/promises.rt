@@ -1,5 +1,5 @@
 // What holds in every run of a group, for every kind of line, as contracts: each function answers the line that it is
-// given, and its contract is a promise.
+// given, and its contract is a promise. They differ in nothing else, and stay apart so that each promise can be cited by name.
 ghost use Rattle.std.specs.Prelude.{◌≡◌};
 ghost use Rattle.protocol.specs.Runs.{Agreement, Origin, Permanence, EqualSheets, SomeSeat, Progress, RefusalKeeps, UnmadeRefuses};
 

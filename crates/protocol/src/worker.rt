@@ -1,6 +1,7 @@
 // A worker's record.
 
-// What one worker (replica) keeps, but for its cells. Places are those of roster entries, counted from 1.
+// What one worker (replica) keeps, but for its cells. Places are those of roster entries, counted from 1. They are compared
+// as numbers, with one that has not come below all others, so that one is 0 and no `Option`.
 #[derive(Clone, Copy, PartialEq, Eq, Debug, Default)]
 pub struct Worker {
     // how many roster entries it has read

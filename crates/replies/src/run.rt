@@ -23,7 +23,7 @@ pub enum Reply {
     Done,
     // the step was done with the line (log entry) that was in hand
     Held,
-    // the step or question was refused: the number, and the layer that refused
+    // the step or question was refused: the number and the layer, which both kinds of fault have and no more
     Refused(u32, Layer),
     // the sheet to this line
     Sheet(usize, Figures),

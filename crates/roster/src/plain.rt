@@ -7,7 +7,7 @@ use crate::fault::RosterFault;
 use crate::meaning::{ENTRIES_MAX, Roster};
 
 // A roster in one lent table, always open. Its list is the first `len` places of the table, of which it uses 1,024 at
-// most.
+// most. Its memory is its caller's, so it is a slice with a length beside it and no vector.
 #[derive(Drop)]
 pub struct PlainRoster<'a, E> {
     table: &'a mut [E],

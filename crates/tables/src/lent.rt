@@ -11,6 +11,7 @@ pub struct Table<'a, T> {
 }
 
 // A list in a lent table: its first `len` places.
+// Its memory is its caller's, so it is a slice with a length beside it and no vector.
 #[derive(Drop)]
 pub struct LentList<'a, T> {
     table: &'a mut [T],

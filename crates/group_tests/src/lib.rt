@@ -101,10 +101,9 @@ mod tests {
             words: [0, 0],
         }];
         let mut table = KeyTable::new(&mut pairs);
-        match key_sheet(&group, &mut table, w, to) {
-            Ok(sheet) => Ok(sheet.fit()),
-            Err(refusal) => Err(refusal.fault),
-        }
+        key_sheet(&group, &mut table, w, to)
+            .map(|sheet| sheet.fit())
+            .map_err(|refusal| refusal.fault)
     }
 
     #[test]

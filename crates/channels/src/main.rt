@@ -1,27 +1,25 @@
 // Works out a key sheet from lines of text on standard input, and prints what each line did.
 #![tactic(auto)]
 
-use channeltext::{Summary, apply_text, read_places};
+use channeltext::{ChannelSheet, Summary, read_places};
 use input::read_input;
 use keylines::{Channel, Pair};
-use keys::{KeySheet, KeyTable};
 use std::io;
 use text::{Lines, Numbered};
 
-// Answers the lines after the first, with a table of so many places.
+// Answers the lines after the first, with a sheet of so many places.
 fn answer_lines(rt: &HostRuntime, lines: Lines, places: usize) -> io::Result<()> {
     let free = Pair {
         key: Channel { number: 0 },
         words: [0, 0],
     };
     let mut pairs = vec![in rt.alloc(); free; places]?;
-    let mut table = KeyTable::new(pairs.as_mut_slice());
-    let mut sheet = KeySheet::new();
+    let mut sheet = ChannelSheet::new(pairs.as_mut_slice());
     for (number, line) in (2u32..).zip(lines) {
-        let answer = apply_text(&mut sheet, &mut table, line);
+        let answer = sheet.apply_text(line);
         rt.println(Numbered { number, answer })?;
     }
-    rt.println(Summary::new(&sheet, &table))
+    rt.println(Summary::from(&sheet))
 }
 
 fn main(rt: HostRuntime) -> io::Result<()> {

@@ -2,7 +2,9 @@
 #![tactic(auto)]
 
 mod read;
+mod sheet;
 mod show;
 
 pub use read::{Request, read_places, read_request};
-pub use show::{ChannelAnswer, Summary, apply_text};
+pub use sheet::ChannelSheet;
+pub use show::{ChannelAnswer, Summary};

@@ -21,6 +21,7 @@ use Rattle.channeltext.specs.declared.show.ChannelAnswer.TheVariants.{Fit, Unfit
 use Rattle.channeltext.specs.declared.show.Summary.{Summary}
 use Rattle.channeltext.specs.Requests.{request_of}
 
+-- the `eq` and the `above` of channels, written out, since only a clause can quote an impl
 abbrev pub same_channel : Channel → Channel → Bool
 same_channel x y = x.number == y.number
 

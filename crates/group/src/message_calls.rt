@@ -7,8 +7,8 @@ ghost use Rattle.protocol.specs.Promises.{GoesOn};
 ghost use Rattle.protocol.specs.Store.{step_after, step_answer};
 ghost use Rattle.group.specs.Views.{store_of};
 
-use crate::state::Group;
-use protocol::{Answer, Refusal, StepFault};
+use crate::state::{Group, done};
+use protocol::{Answer, Refusal, StepFault, told};
 
 impl<'a, L: Copy> Group<'a, L> {
     // Worker `w` asks its seat for a promise.
@@ -17,9 +17,7 @@ impl<'a, L: Copy> Group<'a, L> {
         ensures after { (m' : RosterModel (EntryOf L)) → store_of self.new m' ≡ step_after (Prepare w) (store_of self.old m') }
         ensures promise { (m' : RosterModel (EntryOf L)) → GoesOn (Prepare w) (store_of self.old m') (store_of self.new m') }
     {
-        message_steps::prepare(&mut self.memory, w)
-            .map(|()| Answer::Done)
-            .map_err(|fault| Refusal { fault, worker: w })
+        done(w, message_steps::prepare(&mut self.memory, w))
     }
 
     // Worker `w` proposes a line for line `k`; where it has a line for `k` in hand, that one is sent and the answer is Held.
@@ -28,10 +26,7 @@ impl<'a, L: Copy> Group<'a, L> {
         ensures after { (m' : RosterModel (EntryOf L)) → store_of self.new m' ≡ step_after (Propose w k line) (store_of self.old m') }
         ensures promise { (m' : RosterModel (EntryOf L)) → GoesOn (Propose w k line) (store_of self.old m') (store_of self.new m') }
     {
-        message_steps::propose(&mut self.memory, w, k, line).map_err(|fault| Refusal {
-            fault,
-            worker: w,
-        })
+        told(w, message_steps::propose(&mut self.memory, w, k, line))
     }
 
     // Message `m` is delivered to worker `w`, and kept.
@@ -40,9 +35,7 @@ impl<'a, L: Copy> Group<'a, L> {
         ensures after { (m' : RosterModel (EntryOf L)) → store_of self.new m' ≡ step_after (Deliver m w) (store_of self.old m') }
         ensures promise { (m' : RosterModel (EntryOf L)) → GoesOn (Deliver m w) (store_of self.old m') (store_of self.new m') }
     {
-        delivery::deliver(&mut self.memory, m, w)
-            .map(|()| Answer::Done)
-            .map_err(|fault| Refusal { fault, worker: w })
+        done(w, delivery::deliver(&mut self.memory, m, w))
     }
 
     // Message `m` is lost, and the last message takes its number.
@@ -51,8 +44,6 @@ impl<'a, L: Copy> Group<'a, L> {
         ensures after { (m' : RosterModel (EntryOf L)) → store_of self.new m' ≡ step_after (Lose m) (store_of self.old m') }
         ensures promise { (m' : RosterModel (EntryOf L)) → GoesOn (Lose m) (store_of self.old m') (store_of self.new m') }
     {
-        message_steps::lose(&mut self.memory, m)
-            .map(|()| Answer::Done)
-            .map_err(|fault| Refusal { fault, worker: 0 })
+        done(0, message_steps::lose(&mut self.memory, m))
     }
 }

@@ -5,7 +5,7 @@ ghost use Rattle.protocol.specs.Promises.{GoesOn};
 ghost use Rattle.protocol.specs.Store.{step_after, step_answer};
 ghost use Rattle.group.specs.Views.{store_of};
 
-use crate::state::Group;
+use crate::state::{Group, done};
 use protocol::{Answer, Refusal, StepFault};
 use roster::{Entry, Roster};
 
@@ -20,9 +20,7 @@ impl<'a, L: Copy> Group<'a, L> {
         ensures after { store_of self.new (R.model roster.new) ≡ step_after (Found a) (store_of self.old (R.model roster.old)) }
         ensures promise { GoesOn (Found a) (store_of self.old (R.model roster.old)) (store_of self.new (R.model roster.new)) }
     {
-        roster_steps::found(&mut self.memory, roster, a)
-            .map(|()| Answer::Done)
-            .map_err(|fault| Refusal { fault, worker: a })
+        done(a, roster_steps::found(&mut self.memory, roster, a))
     }
 
     // Worker `w` takes the entry after those that it has read.
@@ -35,9 +33,7 @@ impl<'a, L: Copy> Group<'a, L> {
         ensures after { store_of self.new (R.model roster.new) ≡ step_after (Read w) (store_of self.old (R.model roster.old)) }
         ensures promise { GoesOn (Read w) (store_of self.old (R.model roster.old)) (store_of self.new (R.model roster.new)) }
     {
-        roster_steps::read(&mut self.memory, roster, w)
-            .map(|()| Answer::Done)
-            .map_err(|fault| Refusal { fault, worker: w })
+        done(w, roster_steps::read(&mut self.memory, roster, w))
     }
 
     // Worker `w` makes a claim (proposal number): it appends its Lead entry, whose place is the claim.
@@ -50,9 +46,7 @@ impl<'a, L: Copy> Group<'a, L> {
         ensures after { store_of self.new (R.model roster.new) ≡ step_after (Lead w) (store_of self.old (R.model roster.old)) }
         ensures promise { GoesOn (Lead w) (store_of self.old (R.model roster.old)) (store_of self.new (R.model roster.new)) }
     {
-        roster_steps::lead(&mut self.memory, roster, w)
-            .map(|()| Answer::Done)
-            .map_err(|fault| Refusal { fault, worker: w })
+        done(w, roster_steps::lead(&mut self.memory, roster, w))
     }
 
     // Worker `w` carries its line `k` over into the roster.
@@ -66,9 +60,7 @@ impl<'a, L: Copy> Group<'a, L> {
         ensures after { store_of self.new (R.model roster.new) ≡ step_after (Carry w k) (store_of self.old (R.model roster.old)) }
         ensures promise { GoesOn (Carry w k) (store_of self.old (R.model roster.old)) (store_of self.new (R.model roster.new)) }
     {
-        roster_steps::carry(&mut self.memory, roster, w, k)
-            .map(|()| Answer::Done)
-            .map_err(|fault| Refusal { fault, worker: w })
+        done(w, roster_steps::carry(&mut self.memory, roster, w, k))
     }
 
     // Worker `w` moves the seat (active acceptor) to worker `b`.
@@ -82,8 +74,6 @@ impl<'a, L: Copy> Group<'a, L> {
         ensures after { store_of self.new (R.model roster.new) ≡ step_after (Reseat w b) (store_of self.old (R.model roster.old)) }
         ensures promise { GoesOn (Reseat w b) (store_of self.old (R.model roster.old)) (store_of self.new (R.model roster.new)) }
     {
-        roster_steps::reseat(&mut self.memory, roster, w, b)
-            .map(|()| Answer::Done)
-            .map_err(|fault| Refusal { fault, worker: w })
+        done(w, roster_steps::reseat(&mut self.memory, roster, w, b))
     }
 }

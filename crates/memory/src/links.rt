@@ -13,8 +13,7 @@ pub fn enter<E, R: Roster<E>>(roster: &mut R, place: usize, item: E) -> Result<(
     ensures after { R.model roster.new ≡ settled result (appended_to (Ok tt) (R.model roster.old) item) (R.model roster.old) }
     ensures within { OnOk result (place ≤ entries_max) }
 {
-    roster.append(place, item)?;
-    Ok(())
+    Ok(roster.append(place, item)?)
 }
 
 // Reads the entry at a place.
@@ -22,6 +21,5 @@ pub fn fetch<E, R: Roster<E>>(roster: &R, place: usize) -> Result<E, StepFault>
     ensures value { result ≡ raised (read_answer (R.model roster.now) place) }
     ensures within { OnOk result (place ≤ entries_max) }
 {
-    let item = roster.read(place)?;
-    Ok(item)
+    Ok(roster.read(place)?)
 }

@@ -89,9 +89,6 @@ line_range k h = let z = and_parts (ltb 0 k) (leb k 64) h in (ltb-true 0 k z.0, 
 line_from : (k : ℕ) → (0 < k) × (k ≤ 64) → line_ok k ≡ true
 line_from k h = and_from (ltb 0 k) (leb k 64) (lt-ltb 0 k h.0) (le-leb k 64 h.1)
 
-pub zero_shr : (i : ℕ) → 0 / 2 ^ i ≡ 0
-zero_shr i = let z : 0 / 2 ^ i < 1 = shr_below 0 0 i (pow_pos (0 + i)) in omega arith
-
 -- at another place
 cell_other : {X : Type 0} (t : List (Option X)) (w k : ℕ) (o : Option X) → (0 < k) × (k ≤ 64) → (u j : ℕ) → ((u ≡ w) × (j ≡ k) → ⊥) → cell (set t (64 * w + (k - 1)) o) u j ≡ cell t u j
 cell_other t w k o line u j apart = ⊎_elim
@@ -169,9 +166,6 @@ and_zero m = and_zero_r m
 
 marked_out : (m k : ℕ) → in_book k ≡ false → marked m k ≡ false
 marked_out m k h = ap (λ q. ltb 0 (bit_and m q)) (cond-false (in_book k) (2 ^ (k - 1)) 0 h) ∙ ap (ltb 0) (and_zero m)
-
-pub marked-none : (k : ℕ) → marked 0 k ≡ false
-marked-none k = refl
 
 pub marked_or : (m k : ℕ) → in_book k ≡ true → (j : ℕ) → marked (bit_or m (bit_of k)) j ≡ put (marked m) k true j
 marked_or m k ok j = ⊎_elim

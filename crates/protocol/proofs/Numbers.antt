@@ -20,7 +20,7 @@ use Rattle.protocol.specs.Faults.{number}
 use Rattle.protocol.specs.Items.{item_at}
 use Rattle.protocol.specs.Lines.{in_book, marked}
 use Rattle.protocol.specs.Sizes.{Sized, sized_test}
-use Rattle.protocol.specs.Store.{Store, worker_of, after, must, raised, plainly, asked, made_in, appends, cell_at, filled, held, lines_in, reports, report_of, all_marked, seated_cells, may_deliver, step_result, room_for, has_room, timely_at, timely_to, sent_as, unmarked}
+use Rattle.protocol.specs.Store.{Store, worker_of, after, must, raised, plainly, asked, made_in, appends, cell_at, held, lines_in, reports, report_of, all_marked, seated_cells, may_deliver, step_result, room_for, has_room, timely_at, timely_to, sent_as, unmarked}
 use Rattle.protocol.proofs.Cells.{cell, clear_own}
 use Rattle.protocol.proofs.View.{view, bares, bare_of, bares_length, bares_item, bares_append, leader_of, Fit}
 
@@ -144,10 +144,6 @@ read_qs true true None = refl
 read_qs true true (Some x) = refl
 
 module _ {L : Type 0} where
-  pub fill_same : (o : Option L) → filled o ≡ is_some o
-  fill_same None = refl
-  fill_same (Some l) = refl
-
   -- a worker's cell by its line number
   pub cell_at_lem : (t : List (Option L)) (w n : ℕ) → n < 64 → get_or t (64 * w + n) None ≡ cell t w (suc n)
   cell_at_lem t w n h = sym (cond-true (line_ok (suc n)) _ None (and_from _ _ (lt-ltb 0 (suc n) (omega arith)) (le-leb (suc n) 64 (omega arith))) ∙ ap (λ i. get_or t (64 * w + i) None) (let e : suc n - 1 ≡ n = omega arith in e))
@@ -156,7 +152,7 @@ module _ {L : Type 0} where
   unfolding all_marked
   marks_same x w t zero h = refl
   marks_same x w t (suc n) h = ap₂ ◌&&◌
-      (ap₂ (λ a b. cond a b true) (fill_same (get_or t (64 * w + n) None) ∙ ap is_some (cell_at_lem t w n (omega arith))) (ap (marked x.carried) (add-one n)))
+      (ap₂ (λ a b. cond a b true) (ap is_some (cell_at_lem t w n (omega arith))) (ap (marked x.carried) (add-one n)))
       (marks_same x w t n (omega arith))
 
   held-bump : (o : Option L) (n : ℕ) → n + held o ≡ bump (is_some o) n

@@ -75,9 +75,6 @@ upto_trans {e} {c} {f} {d} {i} {j} h k = let a = h.low in let b = k.low in recor
 pub under_trans : {e c f d i j : ℕ} → Under e c f d → Upto f d i j → Under e c i j
 under_trans {e} {c} {f} {d} {i} {j} h k = let a = h.low in let b = k.low in record { low = omega arith; tie = λ z. let p = h.tie (omega arith) in let q = k.tie (omega arith) in omega arith }
 
-pub upto_under : {e c f d i j : ℕ} → Upto e c f d → Under f d i j → Under e c i j
-upto_under {e} {c} {f} {d} {i} {j} h k = let a = h.low in let b = k.low in record { low = omega arith; tie = λ z. let p = h.tie (omega arith) in let q = k.tie (omega arith) in omega arith }
-
 pub order : (e c f d : ℕ) → Upto e c f d ⊎ Under f d e c
 order e c f d = ⊎_elim (λ lt. inl (record { low = omega arith; tie = omega arith }))
     (⊎_elim (λ eq. ⊎_elim (λ lt. inr (record { low = omega arith; tie = λ z. lt })) (λ ge. inl (record { low = omega arith; tie = λ z. ge })) (side d c))
@@ -91,9 +88,6 @@ at_tie e h = record { low = omega arith; tie = λ z. h }
 
 pub under_tie : (e : ℕ) {c d : ℕ} → c < d → Under e c e d
 under_tie e h = record { low = omega arith; tie = λ z. h }
-
-pub by_seat : {e f : ℕ} (c d : ℕ) → e < f → Under e c f d
-by_seat c d h = record { low = omega arith; tie = omega arith }
 
 pub weaker : {e c f d : ℕ} → Under e c f d → Upto e c f d
 weaker {e} {c} {f} {d} h = record { low = h.low; tie = λ z. let k = h.tie z in omega arith }

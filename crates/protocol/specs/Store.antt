@@ -12,7 +12,7 @@
 -- step_after s g      the store after the step s, refused or not: a refused step changes nothing
 -- step_answer s g     what is told to the caller
 -- Each step gets the questions that concern it, in the order of their numbers.
-use Rattle.std.specs.Prelude.{◌≡◌, ℕ, zero, suc, ◌+◌, ◌-◌, ◌*◌, Bool, true, false, cond, not, ◌&&◌, ◌||◌, List, [], ◌∷◌, ◌++◌, length, take, replicate, Some, None, Ok, Err, Option, Result, ◌==◌, bit_or, count_ones, nat_eq, nat_lt, slice_index_or, slice_set}
+use Rattle.std.specs.Prelude.{◌≡◌, ℕ, zero, suc, ◌+◌, ◌-◌, ◌*◌, Bool, true, false, cond, not, ◌&&◌, ◌||◌, List, [], ◌∷◌, ◌++◌, length, take, replicate, Some, None, Ok, Err, Option, Result, ◌==◌, bit_or, count_ones, is_some, nat_eq, nat_lt, slice_index_or, slice_set}
 use Rattle.std.specs.Option.{option_eq}
 use Rattle.roster.specs.declared.entry.Entry.{Entry}
 use Rattle.roster.specs.declared.entry.Entry.TheVariants.{Lead as lead, Seat as seat, Carry as carry}
@@ -105,10 +105,6 @@ lost_at (Some x) m xs = take (length xs - 1) (slice_set xs m x)
 abbrev pub put_cell : {L : Type 0} → ℕ → ℕ → Option L → List (Option L) → List (Option L)
 put_cell w k o cells = cond (in_book k) (slice_set cells (cell_of w k) o) cells
 
-abbrev pub filled : {L : Type 0} → Option L → Bool
-filled None = false
-filled (Some _) = true
-
 -- the cells of worker w without its first n lines that carried does not mark
 unfoldable pub cleared : {L : Type 0} → ℕ → ℕ → ℕ → List (Option L) → List (Option L)
 cleared carried w zero cells = cells
@@ -138,7 +134,7 @@ reports w to e c (suc n) cells = reports w to e c n cells ++ report_of w to e c 
 -- every line in hand among the first n is marked
 unfoldable pub all_marked : {L : Type 0} → ℕ → ℕ → ℕ → List (Option L) → Bool
 all_marked carried w zero cells = true
-all_marked carried w (suc n) cells = cond (filled (slice_index_or cells (lines * w + n) None)) (marked carried (n + 1)) true && all_marked carried w n cells
+all_marked carried w (suc n) cells = cond (is_some (slice_index_or cells (lines * w + n) None)) (marked carried (n + 1)) true && all_marked carried w n cells
 
 -- a worker that has appended its Lead entry: that place is read, and is its claim
 abbrev pub lead_worker : Worker → Worker

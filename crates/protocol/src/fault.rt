@@ -1,6 +1,6 @@
 // Why a step is refused, and what the refusal tells.
 ghost use Rattle.std.specs.Prelude.{◌≡◌, ℕ, Some};
-ghost use Rattle.protocol.specs.Faults.{number, layer_of};
+ghost use Rattle.protocol.specs.Faults.{number, layer_of, told_of};
 ghost use Rattle.protocol.specs.Shown.{layer_text};
 ghost use Rattle.protocol.specs.declared.fault.Layer.{Layer};
 ghost use Rattle.protocol.specs.declared.fault.StepFault.TheVariants.{OfRoster};
@@ -77,6 +77,13 @@ pub struct Refusal<F> {
     pub worker: usize,
 }
 
+// The answer to what was asked of a worker, with that worker in a refusal.
+pub fn told<T, F>(worker: usize, answer: Result<T, F>) -> Result<T, Refusal<F>>
+    ensures { result ≡ told_of worker answer }
+{
+    answer.map_err(|fault| Refusal { fault, worker })
+}
+
 impl From<RosterFault> for StepFault {
     ghost from_gives = { λ e r. r ≡ OfRoster e };
 
@@ -91,6 +98,7 @@ impl Fault for StepFault {
     ghost layer = { layer_of };
 
     fn number(&self) -> u32 {
+        // a match, as `as` wants variants without values
         match *self {
             StepFault::Unmade => 1,
             StepFault::NoWorker => 2,

@@ -8,7 +8,7 @@ mod promises;
 mod step;
 mod worker;
 
-pub use fault::{Fault, Layer, Refusal, StepFault};
+pub use fault::{Fault, Layer, Refusal, StepFault, told};
 pub use limits::{LINES, MESSAGES_MAX, MESSAGES_MIN, WORKERS_MAX, WORKERS_MIN};
 pub use message::Message;
 pub use promises::{agreement, equal_sheets, origin, permanence, progress, refusals};

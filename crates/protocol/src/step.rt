@@ -46,6 +46,7 @@ impl<L: Copy> Step<L> {
             | Step::Carry(worker, _)
             | Step::Reseat(worker, _)
             | Step::Deliver(_, worker) => worker,
+            // a Lose is given no worker, and its refusal tells 0 by the protocol's rule
             Step::Lose(_) => 0,
         }
     }

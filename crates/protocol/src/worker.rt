@@ -1,4 +1,5 @@
 // A worker's record.
+ghost use Rattle.std.specs.Prelude.{◌≡◌, ◌+◌};
 
 // What one worker (replica) keeps, but for its cells. Places are those of roster entries, counted from 1. They are compared
 // as numbers, with one that has not come below all others, so that one is 0 and no `Option`.
@@ -22,4 +23,13 @@ pub struct Worker {
     // as acceptor: the place of the Seat entry that it sits under, and its promise, a claim; 0 for none
     pub sits: u32,
     pub promise: u32,
+}
+
+impl Worker {
+    // The place of the roster entry after those that it has read.
+    pub fn next_place(&self) -> usize
+        ensures { result ≡ self.now.mark + 1 }
+    {
+        self.mark as usize + 1
+    }
 }

@@ -6,12 +6,8 @@ use Rattle.roster.specs.declared.runs.Call.{Call}
 use Rattle.roster.specs.declared.runs.Call.TheVariants.{Append, Read}
 use Rattle.roster.specs.declared.fault.RosterFault.{RosterFault}
 use Rattle.roster.specs.Answers.{append_answer, appended_to, entry_answer, read_answer}
-use Rattle.roster.specs.Model.{RosterModel, Bounded, readable, appendable}
+use Rattle.roster.specs.Model.{RosterModel, Bounded, readable}
 use Rattle.roster.specs.Runs.{after_call, after_calls, Grown, EntriesStay}
-
--- what an append that was not refused found: an open roster, the next place, and room
-pub append_open : {E : Type 0} (m : RosterModel E) (p : ℕ) → append_answer m p ≡ Ok tt → appendable m ≡ true
-append_open m p h = grind (arith, nat_tests)
 
 module _ {E : Type 0} where
   same_grown : (m : RosterModel E) → Bounded m → Grown m m

@@ -49,7 +49,7 @@ pub fn carry<L: Copy, R: Roster<Entry<L>>>(
     let x = group.worker(w)?;
     may_carry(x, k)?;
     let line = unmarked(&group.hand, x, w, k)?;
-    enter(roster, x.mark as usize + 1, Entry::Carry(k, line))?;
+    enter(roster, x.next_place(), Entry::Carry(k, line))?;
     group.workers.all[w] = Worker {
         mark: x.mark + 1,
         carried: x.carried | bit(k),
@@ -82,7 +82,7 @@ pub fn reseat<L: Copy, R: Roster<Entry<L>>>(
     let x = group.worker(w)?;
     let marks = group.hand.all_in(w, x.carried);
     may_reseat(x, w, b, group.workers.all.len(), marks)?;
-    enter(roster, x.mark as usize + 1, Entry::Seat(b))?;
+    enter(roster, x.next_place(), Entry::Seat(b))?;
     let place = x.mark + 1;
     group.workers.all[w] = Worker {
         mark: place,

@@ -17,8 +17,7 @@ pub fn found<L: Copy, R: Roster<Entry<L>>>(
     ensures after { Same (store_in group.new (R.model roster.new)) (settled result (found_done a (store_in group.old (R.model roster.old))) (store_in group.old (R.model roster.old))) }
 {
     group.worker(a)?;
-    enter(roster, 1, Entry::Seat(a))?;
-    Ok(())
+    enter(roster, 1, Entry::Seat(a))
 }
 
 // To a Lead: the worker has read a Seat entry (6), and is not the seat (8).
@@ -40,7 +39,7 @@ pub fn lead<L: Copy, R: Roster<Entry<L>>>(
 {
     let x = group.worker(w)?;
     may_lead(x, w)?;
-    enter(roster, x.mark as usize + 1, Entry::Lead(w))?;
+    enter(roster, x.next_place(), Entry::Lead(w))?;
     let place = x.mark + 1;
     group.workers.all[w] = Worker {
         mark: place,

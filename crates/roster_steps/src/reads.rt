@@ -58,7 +58,7 @@ pub fn read<L: Copy, R: Roster<Entry<L>>>(
     ensures after { Same (store_in group.new (R.model roster.new)) (settled result (read_done w (store_in group.old (R.model roster.old))) (store_in group.old (R.model roster.old))) }
 {
     let x = group.worker(w)?;
-    let entry = fetch(roster, x.mark as usize + 1)?;
+    let entry = fetch(roster, x.next_place())?;
     group.workers.all[w] = noted(x, &entry);
     carry_in(&mut group.hand, w, &entry);
     Ok(())

@@ -8,7 +8,7 @@ use Rattle.std.specs.Prelude.{filter}
 use Rattle.std.specs.List.{list_all, enumerate_from}
 use Rattle.std.specs.Option.{is_some}
 use Rattle.protocol.specs.Lines.{marked}
-use Rattle.protocol.specs.Store.{all_marked, cleared, filled, held, lines_in}
+use Rattle.protocol.specs.Store.{all_marked, cleared, held, lines_in}
 
 module _ {L : Type 0} where
   pub is_none : (o : Option L) → ((l : L) → o ≡ Some l → ⊥) → o ≡ None
@@ -59,11 +59,7 @@ module _ {L : Type 0} where
       let e : 0 + length (take n row) ≡ n = omega (arith, length-take n row) in
       ap (λ xs. list_all (passes c) (enumerate_from 0 xs)) (ap (λ k. take k row) (sym (add-one n)) ∙ take_more row n None b)
       ∙ all_more (passes c) 0 (take n row) (get_or row n None)
-      ∙ ap₂ (λ a d. a && d) (ap (λ k. passes c (k, get_or row n None)) e ∙ same (get_or row n None) (marked c (n + 1)) ∙ ap (λ o. cond (filled o) (marked c (n + 1)) true) (get_or-drop (64 * w) cells n None)) (marks_row c w n cells (omega arith))
-    where
-      same : (o : Option L) (b : Bool) → cond (is_some o) b true ≡ cond (filled o) b true
-      same None b = refl
-      same (Some l) b = refl
+      ∙ ap₂ (λ a d. a && d) (ap (λ k. passes c (k, get_or row n None)) e ∙ ap (λ o. cond (is_some o) (marked c (n + 1)) true) (get_or-drop (64 * w) cells n None)) (marks_row c w n cells (omega arith))
 
   -- a write in a part, and in the whole
   part_set : (a k j : ℕ) (xs ys : List (Option L)) (o : Option L) → a ≤ length xs → j < length ys → put_mid a k xs (set ys j o) ≡ set (put_mid a k xs ys) (a + j) o

@@ -1,5 +1,5 @@
 -- Sheets worked out line by line: the sheet of the lines so far, with one line more, is that of the longer book.
-use Rattle.std.proofs.Common.{◌≡◌, ℕ, ◌-◌, ◌<◌, ◌≤◌, true, List, [], ◌∷◌, ◌++◌, map, is_some, Some, None, Ok, Err, Option, sym, refl, ap, ◌∙◌, ok_or, arith}
+use Rattle.std.proofs.Common.{◌≡◌, ℕ, zero, suc, ◌+◌, ◌-◌, ◌<◌, ◌≤◌, true, List, [], ◌∷◌, ◌++◌, map, is_some, Some, None, Ok, Err, Option, sym, refl, ap, ◌∙◌, subst, ok_or, arith}
 use Rattle.std.specs.Result.{result_and}
 use Rattle.protocol.specs.Runs.{holds, joined, book_to}
 use Rattle.protocol.specs.Store.{Store}
@@ -48,6 +48,15 @@ module _ {L X : Type 0} (sheet : List L → X) where
 pub one_there : {L : Type 0} (g : Store L) (w k j : ℕ) (o : Option L) → 0 < k → k ≡ j → SoFar no_sheet g w (k - 1) tt → o ≡ holds g w k → is_some o ≡ true → SoFar no_sheet g w j tt
 one_there g w k j None p same e f h = absurd (grind arith)
 one_there g w k j (Some l) p same e f h = works_on no_sheet (λ _ _. tt) (λ _ _. refl) g w k j tt l p same e f
+
+-- the first n lines are held
+pub all_there : {L : Type 0} (g : Store L) (w n : ℕ) → ((k : ℕ) → k < n → true ≡ is_some (holds g w (1 + k))) → SoFar no_sheet g w n tt
+all_there g w zero held = refl
+all_there g w (suc i) held =
+    let before : i ≡ suc i - 1 = omega arith in
+    let last : 1 + i ≡ suc i = omega arith in
+    one_there g w (suc i) (suc i) (holds g w (suc i)) (omega arith) refl (subst (λ n. SoFar no_sheet g w n tt) before (all_there g w i (λ k h. held k (omega arith)))) refl
+    (sym (held i (omega arith) ∙ ap (λ k. is_some (holds g w k)) last))
 
 packs_last_from : (s : PackSheet) (ls : List StoredPackLine) (a : StoredPackLine) → worked_on s (map restored_of (ls ++ (a ∷ []))) ≡ applied (worked_on s (map restored_of ls)) (restored_of a)
 packs_last_from s [] a = refl

@@ -1,5 +1,6 @@
 -- Equal sheets: workers that hold the lines 1 to j hold the same lines, so that what is worked out from them is equal.
-use Rattle.std.proofs.Common.{◌≡◌, ℕ, Bool, List, Some, None, Ok, Err, Option, Result, sym, refl, ap, ◌∙◌, arith}
+use Rattle.std.proofs.Common.{◌≡◌, ℕ, Bool, List, Some, None, Ok, Err, Option, Result, sym, refl, ap, ◌∙◌, ok_or, arith}
+use Rattle.std.specs.Result.{result_and}
 use Rattle.protocol.specs.Faults.{told_of}
 use Rattle.protocol.specs.Runs.{History, Run, book_to}
 use Rattle.protocol.specs.Store.{Store}
@@ -9,11 +10,12 @@ use Rattle.pack.specs.Sheets.{remaining_of}
 use Rattle.keylines.specs.declared.lines.ChannelLine.{ChannelLine}
 use Rattle.keylines.specs.Sheets.{sheet_of}
 use Rattle.books.specs.declared.fault.SheetFault.{SheetFault}
-use Rattle.books.specs.Sheets.{EqualKeySheets, EqualPackSheets, after, asked_of, lines_held, lines_to, packs_of, works_out}
+use Rattle.books.specs.declared.fault.SheetFault.TheVariants.{NotHeld}
+use Rattle.books.specs.Sheets.{EqualKeySheets, EqualPackSheets, asked_of, lines_to, packs_of, works_out}
 
 module _ {L X : Type 0} (sheet : List L → X) where
   -- the lines behind a sheet that was answered
-  behind : (w : ℕ) (q : Result Unit SheetFault) (o : Option (List L)) (s : X) → told_of w (works_out sheet (after q (lines_held o))) ≡ Ok s → (ls : List L) × (o ≡ Some ls) × (sheet ls ≡ s)
+  behind : (w : ℕ) (q : Result Unit SheetFault) (o : Option (List L)) (s : X) → told_of w (works_out sheet (result_and q (ok_or o NotHeld))) ≡ Ok s → (ls : List L) × (o ≡ Some ls) × (sheet ls ≡ s)
   behind w (Err f) o s e = let z : ◌≡◌ {A = ℕ} 0 1 = cc in absurd (omega arith)
   behind w (Ok _) None s e = let z : ◌≡◌ {A = ℕ} 0 1 = cc in absurd (omega arith)
   behind w (Ok _) (Some ls) s e = (ls, refl, let same : sheet ls ≡ s = cc in same)

@@ -1,5 +1,5 @@
 -- How far the lines of a worker go without a gap: line by line, with the lines so far all held.
-use Rattle.std.proofs.Common.{◌≡◌, ℕ, zero, suc, ◌+◌, ◌-◌, ◌<◌, ◌≤◌, Bool, true, false, cond, List, [], ◌∷◌, ◌++◌, is_some, Some, None, Option, sym, refl, ap, ◌∙◌, subst, ap₂, add-one, arith}
+use Rattle.std.proofs.Common.{◌≡◌, ℕ, zero, suc, ◌+◌, ◌-◌, ◌<◌, ◌≤◌, Bool, true, false, cond, List, [], ◌∷◌, ◌++◌, MatchOption, is_none, is_some, unwrap_or, Some, None, Option, sym, refl, ap, ◌∙◌, subst, ap₂, add-one, arith}
 use Rattle.protocol.specs.Limits.{lines}
 use Rattle.protocol.specs.Lines.{in_book}
 use Rattle.protocol.specs.Runs.{holds, joined, book_to}
@@ -50,3 +50,30 @@ module _ {L : Type 0} (g : Store L) (w : ℕ) where
       past : (made : Bool) → cond made (cond (in_book (lines + 1)) (cell_at g.learned w (lines + 1)) None) None ≡ None
       past true = refl
       past false = refl
+
+  -- the lines before the first gap are held
+  reached : (i : ℕ) → i ≤ lines → ((k : ℕ) → k < i → false ≡ is_none (holds g w (1 + k))) → Reached i
+  reached zero l held = at_start
+  reached (suc i) l held =
+      let before : i ≡ suc i - 1 = omega arith in
+      let last : 1 + i ≡ suc i = omega arith in
+      one-held (suc i) (suc i) (holds g w (suc i)) (omega arith) l refl (subst Reached before (reached i (omega arith) (λ k h. held k (omega arith)))) refl
+      (there (holds g w (suc i)) (held i (omega arith) ∙ ap (λ k. is_none (holds g w k)) last))
+    where
+      there : (o : Option L) → false ≡ is_none o → is_some o ≡ true
+      there None e = absurd (grind arith)
+      there (Some x) e = refl
+
+  -- what a search for the first gap found
+  abbrev pub FirstGap : Option ℕ → Type 0
+  FirstGap r = MatchOption r ((k : ℕ) → k < lines → false ≡ is_none (holds g w (1 + k))) (λ i. (i < lines) × (true ≡ is_none (holds g w (1 + i))) × ((k : ℕ) → k < i → false ≡ is_none (holds g w (1 + k))))
+
+  pub held_before : (r : Option ℕ) → FirstGap r → (unwrap_or r lines ≡ held_to g w) × HeldTo g w (unwrap_or r lines)
+  held_before None h = ended lines (reached lines (omega arith) h) past_book
+  held_before (Some i) h =
+      let next : 1 + i ≡ i + 1 = omega arith in
+      ended i (reached i (omega (arith, h.0)) h.2) (gone (holds g w (i + 1)) (h.1 ∙ ap (λ k. is_none (holds g w k)) next))
+    where
+      gone : (o : Option L) → true ≡ is_none o → o ≡ None
+      gone None e = refl
+      gone (Some x) e = absurd (grind arith)

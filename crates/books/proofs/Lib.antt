@@ -4,3 +4,4 @@ pub mod Gaps
 pub mod Holding
 pub mod Questions
 pub mod Working
+pub mod Seeking

@@ -1,6 +1,6 @@
 -- Sheets worked out line by line: the sheet of the lines so far, with one line more, is that of the longer book.
-use Rattle.std.proofs.Common.{◌≡◌, ℕ, ◌-◌, ◌<◌, ◌≤◌, true, List, [], ◌∷◌, ◌++◌, map, is_some, Some, None, Ok, Err, Option, Result, sym, refl, ap, ◌∙◌, arith}
-use Rattle.protocol.specs.Faults.{told_of}
+use Rattle.std.proofs.Common.{◌≡◌, ℕ, zero, suc, ◌+◌, ◌-◌, ◌<◌, ◌≤◌, true, List, [], ◌∷◌, ◌++◌, map, is_some, Some, None, Ok, Err, Option, sym, refl, ap, ◌∙◌, subst, ok_or, arith}
+use Rattle.std.specs.Result.{result_and}
 use Rattle.protocol.specs.Runs.{holds, joined, book_to}
 use Rattle.protocol.specs.Store.{Store}
 use Rattle.pack.specs.declared.sheet.PackSheet.{PackSheet}
@@ -9,17 +9,17 @@ use Rattle.pack.specs.Sheets.{applied, worked_on, empty_sheet}
 use Rattle.pack.specs.Stored.{restored_of}
 use Rattle.books.specs.declared.fault.SheetFault.{SheetFault}
 use Rattle.books.specs.declared.fault.SheetFault.TheVariants.{NotHeld}
-use Rattle.books.specs.Sheets.{after, asked_of, asked_to, lines_held, lines_to, no_sheet, packs_of, works_out}
+use Rattle.books.specs.Sheets.{asked_of, lines_to, no_sheet, packs_of, works_out}
 use Rattle.books.proofs.Gaps.{one_more, stays_missing}
 
 -- the sheet so far, where all lines so far are held
 abbrev pub SoFar : {L X : Type 0} → (List L → X) → Store L → ℕ → ℕ → X → Type 0
-SoFar sheet g w i s = Ok s ≡ works_out sheet (lines_held (book_to g w i))
+SoFar sheet g w i s = Ok s ≡ works_out sheet (ok_or (book_to g w i) NotHeld)
 
 module _ {L X : Type 0} (sheet : List L → X) where
   -- a step that works on by one line at the end
   joined_on : (next : X → L → X) → ((ls : List L) (a : L) → sheet (ls ++ (a ∷ [])) ≡ next (sheet ls) a)
-      → (o : Option (List L)) (p : Option L) (s : X) (l : L) → Ok s ≡ works_out sheet (lines_held o) → Some l ≡ p → Ok (next s l) ≡ works_out sheet (lines_held (joined o p))
+      → (o : Option (List L)) (p : Option L) (s : X) (l : L) → Ok s ≡ works_out sheet (ok_or o NotHeld) → Some l ≡ p → Ok (next s l) ≡ works_out sheet (ok_or (joined o p) NotHeld)
   joined_on next last None p s l e f = let z : ◌≡◌ {A = ℕ} 0 1 = cc in absurd (omega arith)
   joined_on next last (Some ls) None s l e f = let z : ◌≡◌ {A = ℕ} 0 1 = cc in absurd (omega arith)
   joined_on next last (Some ls) (Some a) s l e f =
@@ -30,42 +30,33 @@ module _ {L X : Type 0} (sheet : List L → X) where
   pub works_on : (next : X → L → X) → ((ls : List L) (a : L) → sheet (ls ++ (a ∷ [])) ≡ next (sheet ls) a)
       → (g : Store L) (w k j : ℕ) (s : X) (l : L) → 0 < k → k ≡ j → SoFar sheet g w (k - 1) s → Some l ≡ holds g w k → SoFar sheet g w j (next s l)
   works_on next last g w k j s l p same e f =
-      joined_on next last (book_to g w (k - 1)) (holds g w k) s l e f ∙ ap (λ o. works_out sheet (lines_held o)) (sym (one_more g w k p) ∙ ap (book_to g w) same)
+      joined_on next last (book_to g w (k - 1)) (holds g w k) s l e f ∙ ap (λ o. works_out sheet (ok_or o NotHeld)) (sym (one_more g w k p) ∙ ap (book_to g w) same)
 
   -- what is answered: the sheet at the end, that a line is missing, or the fault of an earlier question
   pub all-worked : (g : Store L) (w i j : ℕ) (s : X) → Ok tt ≡ asked_of g w → i ≡ j → SoFar sheet g w i s → Ok s ≡ works_out sheet (lines_to g w j)
   all-worked g w i j s asked same e =
-      e ∙ ap (λ k. works_out sheet (lines_held (book_to g w k))) same ∙ ap (λ q. works_out sheet (after q (lines_held (book_to g w j)))) asked
+      e ∙ ap (λ k. works_out sheet (ok_or (book_to g w k) NotHeld)) same ∙ ap (λ q. works_out sheet (result_and q (ok_or (book_to g w j) NotHeld))) asked
 
   pub one_missing : (g : Store L) (w k j : ℕ) → Ok tt ≡ asked_of g w → 0 < k → None ≡ holds g w k → k ≤ j → Err NotHeld ≡ works_out sheet (lines_to g w j)
   one_missing g w k j asked p gone h =
-      ap (λ o. works_out sheet (lines_held o)) (sym (stays_missing g w k p gone j h)) ∙ ap (λ q. works_out sheet (after q (lines_held (book_to g w j)))) asked
+      ap (λ o. works_out sheet (ok_or o NotHeld)) (sym (stays_missing g w k p gone j h)) ∙ ap (λ q. works_out sheet (result_and q (ok_or (book_to g w j) NotHeld))) asked
 
   pub not_asked : (g : Store L) (w j : ℕ) (f : SheetFault) → Err f ≡ asked_of g w → Err f ≡ works_out sheet (lines_to g w j)
-  not_asked g w j f e = ap (λ q. works_out sheet (after q (lines_held (book_to g w j)))) e
+  not_asked g w j f e = ap (λ q. works_out sheet (result_and q (ok_or (book_to g w j) NotHeld))) e
 
 -- one line more is held
 pub one_there : {L : Type 0} (g : Store L) (w k j : ℕ) (o : Option L) → 0 < k → k ≡ j → SoFar no_sheet g w (k - 1) tt → o ≡ holds g w k → is_some o ≡ true → SoFar no_sheet g w j tt
 one_there g w k j None p same e f h = absurd (grind arith)
 one_there g w k j (Some l) p same e f h = works_on no_sheet (λ _ _. tt) (λ _ _. refl) g w k j tt l p same e f
 
-module _ {L X : Type 0} (sheet : List L → X) (w : ℕ) where
-  -- a sheet that is worked out after all questions were answered with yes
-  told_held : (q : Result Unit SheetFault) (o : Option (List L)) (s : X) → Ok tt ≡ works_out no_sheet (after q (lines_held o)) → ((ls : List L) → o ≡ Some ls → s ≡ sheet ls) → Ok s ≡ told_of w (works_out sheet (after q (lines_held o)))
-  told_held (Err f) o s e made = let z : ◌≡◌ {A = ℕ} 0 1 = cc in absurd (omega arith)
-  told_held (Ok _) None s e made = let z : ◌≡◌ {A = ℕ} 0 1 = cc in absurd (omega arith)
-  told_held (Ok _) (Some ls) s e made = ap Ok (made ls refl)
-
-  told_missing : (q : Result Unit SheetFault) (o : Option (List L)) (f : SheetFault) → Err f ≡ works_out no_sheet (after q (lines_held o)) → Err (record { fault = f; worker = w }) ≡ told_of w (works_out sheet (after q (lines_held o)))
-  told_missing (Err d) o f e = let same : f ≡ d = cc in ap (λ x. Err (record { fault = x; worker = w })) same
-  told_missing (Ok _) None f e = let same : f ≡ NotHeld = cc in ap (λ x. Err (record { fault = x; worker = w })) same
-  told_missing (Ok _) (Some ls) f e = let z : ◌≡◌ {A = ℕ} 0 1 = cc in absurd (omega arith)
-
-  pub all_told : (g : Store L) (j : ℕ) (s : X) → Ok tt ≡ asked_to g w j → ((ls : List L) → book_to g w j ≡ Some ls → s ≡ sheet ls) → Ok s ≡ told_of w (works_out sheet (lines_to g w j))
-  all_told g j s e made = told_held (asked_of g w) (book_to g w j) s e made
-
-  pub fault_told : (g : Store L) (j : ℕ) (f : SheetFault) → Err f ≡ asked_to g w j → Err (record { fault = f; worker = w }) ≡ told_of w (works_out sheet (lines_to g w j))
-  fault_told g j f e = told_missing (asked_of g w) (book_to g w j) f e
+-- the first n lines are held
+pub all_there : {L : Type 0} (g : Store L) (w n : ℕ) → ((k : ℕ) → k < n → true ≡ is_some (holds g w (1 + k))) → SoFar no_sheet g w n tt
+all_there g w zero held = refl
+all_there g w (suc i) held =
+    let before : i ≡ suc i - 1 = omega arith in
+    let last : 1 + i ≡ suc i = omega arith in
+    one_there g w (suc i) (suc i) (holds g w (suc i)) (omega arith) refl (subst (λ n. SoFar no_sheet g w n tt) before (all_there g w i (λ k h. held k (omega arith)))) refl
+    (sym (held i (omega arith) ∙ ap (λ k. is_some (holds g w k)) last))
 
 packs_last_from : (s : PackSheet) (ls : List StoredPackLine) (a : StoredPackLine) → worked_on s (map restored_of (ls ++ (a ∷ []))) ≡ applied (worked_on s (map restored_of ls)) (restored_of a)
 packs_last_from s [] a = refl

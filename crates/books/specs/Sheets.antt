@@ -2,11 +2,9 @@
 --
 -- | word            | meaning                                                                                         |
 -- |-----------------|-------------------------------------------------------------------------------------------------|
--- | after           | what follows questions that were answered with yes                                              |
 -- | asked_of g w    | the questions of every sheet: the group is made (1), and has the worker w (2)                   |
--- | lines_held      | the lines, or that one of them is not held (12)                                                 |
--- | lines_to g w j  | the lines 1 to j of worker w, or the first question that is answered with no; no line is held   |
--- |                 | above 64, and for j = 0 the list is empty                                                       |
+-- | lines_to g w j  | the lines 1 to j of worker w, or the first question that is answered with no, the last of which |
+-- |                 | is whether they are all held (12); no line is held above 64, and for j = 0 the list is empty    |
 -- | works_out       | a sheet worked out from the lines of an answer                                                  |
 -- | no_sheet        | nothing is worked out: the lines are only asked for                                             |
 -- | asked_to g w j  | whether worker w holds the lines 1 to j, or the first question that is answered with no         |
@@ -22,7 +20,8 @@
 -- | AlikeKeys       | two key sheets have equal pairs in every used place, and equal counts                           |
 -- | EqualPackSheets | in every run that leads here, whoever has a pack sheet to j has one that equals worker w's      |
 -- | EqualKeySheets  | the same of key sheets on tables of one capacity                                                |
-use Rattle.std.specs.Prelude.{◌≡◌, ℕ, zero, suc, ◌+◌, Bool, cond, List, map, length, Some, None, Ok, Err, Option, Result, nat_lt}
+use Rattle.std.specs.Prelude.{◌≡◌, ℕ, zero, suc, ◌+◌, Bool, cond, List, map, length, Some, None, Ok, Err, Option, Result, nat_lt, ok_or}
+use Rattle.std.specs.Result.{result_and}
 use Rattle.protocol.specs.declared.fault.Refusal.{Refusal}
 use Rattle.protocol.specs.Faults.{told_of}
 use Rattle.protocol.specs.Limits.{lines}
@@ -40,10 +39,6 @@ use Rattle.keys.specs.Views.{sheet_now}
 use Rattle.books.specs.declared.fault.SheetFault.{SheetFault}
 use Rattle.books.specs.declared.fault.SheetFault.TheVariants.{Unmade, NoWorker, NotHeld}
 
-abbrev pub after : {X : Type 0} → Result Unit SheetFault → Result X SheetFault → Result X SheetFault
-after (Ok _) next = next
-after (Err f) next = Err f
-
 abbrev pub works_out : {X Y : Type 0} → (X → Y) → Result X SheetFault → Result Y SheetFault
 works_out sheet (Ok x) = Ok (sheet x)
 works_out sheet (Err f) = Err f
@@ -52,12 +47,8 @@ module _ {L : Type 0} where
   abbrev pub asked_of : Store L → ℕ → Result Unit SheetFault
   asked_of g w = cond (made_in g) (cond (nat_lt w (length g.workers)) (Ok tt) (Err NoWorker)) (Err Unmade)
 
-  abbrev pub lines_held : Option (List L) → Result (List L) SheetFault
-  lines_held None = Err NotHeld
-  lines_held (Some ls) = Ok ls
-
   abbrev pub lines_to : Store L → ℕ → ℕ → Result (List L) SheetFault
-  lines_to g w j = after (asked_of g w) (lines_held (book_to g w j))
+  lines_to g w j = result_and (asked_of g w) (ok_or (book_to g w j) NotHeld)
 
   abbrev pub no_sheet : List L → Unit {0}
   no_sheet ls = tt

@@ -1,7 +1,8 @@
 // The questions that come before a sheet.
-ghost use Rattle.std.specs.Prelude.{◌≡◌};
+ghost use Rattle.std.specs.Prelude.{◌≡◌, is_some};
 ghost use Rattle.roster.specs.declared.entry.Entry.{Entry as EntryOf};
 ghost use Rattle.roster.specs.Model.{RosterModel};
+ghost use Rattle.protocol.specs.Runs.{holds};
 ghost use Rattle.group.specs.Views.{store_of};
 ghost use Rattle.books.specs.Sheets.{asked_of, asked_to};
 
@@ -28,10 +29,14 @@ pub(crate) fn ask_to<L: Copy>(
     ensures { (m' : RosterModel (EntryOf L)) → result ≡ asked_to (store_of group.now m') worker to }
 {
     ask(group, worker)?;
-    for k in 1..=to {
-        if group.line(worker, k).is_none() {
-            return Err(SheetFault::NotHeld);
-        }
+    let held = (1..=to).all(
+        |k|
+            ensures { (m' : RosterModel (EntryOf L)) → result ≡ is_some (holds (store_of group.entry.now m') worker k) }
+        { group.line(worker, k).is_some() },
+    );
+    if held {
+        Ok(())
+    } else {
+        Err(SheetFault::NotHeld)
     }
-    Ok(())
 }

@@ -1,5 +1,6 @@
 // How far the lines that a worker has learned go without a gap.
-ghost use Rattle.std.specs.Prelude.{◌≡◌};
+ghost use Rattle.std.specs.Prelude.{◌≡◌, is_none};
+ghost use Rattle.protocol.specs.Runs.{holds};
 ghost use Rattle.roster.specs.declared.entry.Entry.{Entry as EntryOf};
 ghost use Rattle.roster.specs.Model.{RosterModel};
 ghost use Rattle.group.specs.Views.{store_of};
@@ -13,10 +14,10 @@ pub fn held_to<L: Copy>(group: &Group<'_, L>, worker: usize) -> usize
     ensures value { (m' : RosterModel (EntryOf L)) → result ≡ held_to (store_of group.now m') worker }
     ensures law { (m' : RosterModel (EntryOf L)) → HeldTo (store_of group.now m') worker result }
 {
-    for k in 1..=LINES {
-        if group.line(worker, k).is_none() {
-            return k - 1;
-        }
-    }
-    LINES
+    let gap = (1..=LINES).position(
+        |k|
+            ensures { (m' : RosterModel (EntryOf L)) → result ≡ is_none (holds (store_of group.entry.now m') worker k) }
+        { group.line(worker, k).is_none() },
+    );
+    gap.unwrap_or(LINES)
 }

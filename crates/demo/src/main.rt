@@ -27,10 +27,9 @@ fn tell<R: Roster<Entry<StoredPackLine>>>(
     rt: &HostRuntime,
     group: &mut Group<'_, StoredPackLine>,
     roster: &mut R,
-    story: &str,
+    story: &[(&str, &str)],
 ) -> io::Result<()> {
-    let steps = story.lines().filter_map(|line| line.split_once('|'));
-    for (number, (command, what)) in (1u32..).zip(steps) {
+    for (number, (command, what)) in (1u32..).zip(story) {
         let answer = run_line(group, roster, command.as_bytes());
         let shown = Numbered { number, answer };
         println!(rt; "{shown}: {what} ({command})")?;

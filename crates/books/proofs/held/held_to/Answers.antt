@@ -1,33 +1,22 @@
--- One line more in each turn, up to the first that is missing or to the end of the book.
-use Rattle.std.proofs.Common.{◌≡◌, ◌+◌, ◌-◌, sym, ap, ◌∙◌, subst, arith}
+-- The first gap is the end of the lines that are held, and where there is none, all lines are.
+use Rattle.std.proofs.Common.{◌≡◌, is_none, unwrap_or, ap₂, ◌∙◌, subst, sym}
+use Rattle.std.proofs.iter.runs.Sources.{inclusive_listed}
 use Rattle.roster.specs.declared.entry.Entry.{Entry}
 use Rattle.roster.specs.Model.{RosterModel}
-use Rattle.protocol.specs.Limits.{lines}
 use Rattle.protocol.specs.Runs.{holds}
+use Rattle.protocol.specs.Limits.{lines}
 use Rattle.group.specs.Views.{store_of}
 use Rattle.books.specs.Sheets.{HeldTo, held_to}
-use Rattle.books.proofs.Gaps.{none_of}
-use Rattle.books.proofs.Holding.{Reached, at_start, one-held, ended, past_book}
+use Rattle.books.proofs.Holding.{held_before}
+use Rattle.books.proofs.Seeking.{counted, first_place}
 use Rattle.books.proofs.held.held_to.Goals as goal
-
-pub loop-k-init : goal.loop-k-init
-loop-k-init g c m = at_start (store_of c.args.group.now m) c.args.worker
-
-pub loop-k-preserved : goal.loop-k-preserved
-loop-k-preserved g c m =
-    one-held (store_of c.args.group.now m) c.args.worker c.loop-k.k (c.loop-k.k + 1 - 1) c.line.result c.loop-k.auto.k (omega arith) (omega arith) (c.loop-k.invariant m) (c.line.ensures m) c.if-is_none.ensures
-
-pub returns-then-is_none : goal.returns-then-is_none
-returns-then-is_none g c =
-    let next : c.loop-k.k - 1 + 1 ≡ c.loop-k.k = omega arith in
-    let end : (m : RosterModel (Entry g.row.L.Denot)) → (c.loop-k.k - 1 ≡ held_to (store_of c.args.group.now m) c.args.worker) × HeldTo (store_of c.args.group.now m) c.args.worker (c.loop-k.k - 1) =
-    λ m. ended (store_of c.args.group.now m) c.args.worker (c.loop-k.k - 1) (c.loop-k.invariant m)
-    (ap (holds (store_of c.args.group.now m) c.args.worker) next ∙ sym (c.line.ensures m) ∙ none_of c.line.result c.if-is_none.ensures) in
-    record { value = λ m. (end m).0; law = λ m. (end m).1 }
 
 pub returns : goal.returns
 returns g c =
-    let same : c.loop-k.k - 1 ≡ lines = omega arith in
-    let end : (m : RosterModel (Entry g.row.L.Denot)) → (lines ≡ held_to (store_of c.args.group.now m) c.args.worker) × HeldTo (store_of c.args.group.now m) c.args.worker lines =
-    λ m. ended (store_of c.args.group.now m) c.args.worker lines (subst (Reached (store_of c.args.group.now m) c.args.worker) same (c.loop-k.invariant m)) (past_book (store_of c.args.group.now m) c.args.worker) in
-    record { value = λ m. (end m).0; law = λ m. (end m).1 }
+    let run = c.position-gap.ensures.runs in
+    let range = c.new.ensures in
+    let end : (m : RosterModel (Entry g.row.L.Denot)) → (unwrap_or c.position-gap.result lines ≡ held_to (store_of c.args.group.now m) c.args.worker) × HeldTo (store_of c.args.group.now m) c.args.worker (unwrap_or c.position-gap.result lines) =
+    λ m. held_before (store_of c.args.group.now m) c.args.worker c.position-gap.result
+    (first_place run.0 _ _ (λ k. is_none (holds (store_of c.args.group.now m) c.args.worker k)) lines c.position-gap.result run.2
+    (counted run.0 _ lines run.1 range.start range.end range.exhausted (inclusive_listed run.0 run.0.seen)) (λ x r t k. (ap₂ (λ a b. (a, b)) k.met.0.0 k.met.0.1, k.met.1 m))) in
+    record { value = λ m. c.unwrap_or.ensures ∙ (end m).0; law = λ m. subst (HeldTo (store_of c.args.group.now m) c.args.worker) (sym c.unwrap_or.ensures) (end m).1 }

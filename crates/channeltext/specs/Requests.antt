@@ -6,6 +6,7 @@
 -- by_word p f u      the request that begins with the field f at the place p, and has its other fields in u
 -- request_in u       a request in the next fields of u: `p KEY WORD WORD`, `e KEY`, `?KEY` or `!`
 -- request_of bs      the request that the line bs writes, with no field after it
+-- size_of f          the size of a table that the field f writes, 0 to 1,024 places; size_in u in the next field
 -- places_of bs       the size of a table that the line bs writes: `t PLACES`, with 0 to 1,024 places
 -- good_lines bs      the channel line that bs writes, as a list; none where it is another request, or bad
 use Rattle.std.specs.Prelude.{ℕ, cond, List, [], ◌∷◌, Some, None, Ok, Err, Option, Result, ◌==◌, nat_le}
@@ -55,8 +56,11 @@ abbrev pub request_of : List ℕ → Result Request BadField
 request_of bs = whole_line request_in bs
 
 -- more places than a table can use are a wrong field
+abbrev pub size_of : List ℕ → Option ℕ
+size_of f = elim (number32_in f) [ None ↦ None | Some n ↦ cond (nat_le n places_max) (Some n) None ]
+
 abbrev pub size_in : Unread → Taken ℕ
-size_in u = and_then (take_by number32_in u) (λ n. cond (nat_le n places_max) (done (Ok n)) (done (Err (bad_at u.place))))
+size_in u = take_by size_of u
 
 -- 116 is `t`
 abbrev pub places_in : Unread → Taken ℕ

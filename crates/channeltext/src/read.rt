@@ -1,6 +1,6 @@
 // Reading a request to a key sheet, and the size of its table, from text.
 ghost use Rattle.std.specs.Prelude.{◌≡◌};
-ghost use Rattle.channeltext.specs.Requests.{put_in, erase_in, find_in, request_in, request_of, size_in, places_in, places_of};
+ghost use Rattle.channeltext.specs.Requests.{put_in, erase_in, find_in, request_in, request_of, size_of, places_in, places_of};
 ghost use Rattle.text.specs.Reading.{Takes};
 
 use keylines::{Channel, ChannelLine};
@@ -64,14 +64,13 @@ pub fn read_request(line: &[u8]) -> Result<Request, BadField>
     parse_line(line, take_request)
 }
 
-// The number of places, where a table can use so many.
-fn take_size(fields: &mut Fields) -> Result<usize, BadField>
-    ensures { Takes size_in fields.old result fields.new }
+// The number of places that a field writes, where a table can use so many.
+fn size_of(field: &[u8]) -> Option<usize>
+    ensures { result ≡ size_of field.now }
 {
-    let place = fields.place();
-    match fields.number32()? {
-        places @ ..=PLACES_MOST => Ok(places as usize),
-        _ => Err(BadField { place }),
+    match number32_of(field)? {
+        places @ ..=PLACES_MOST => Some(places as usize),
+        _ => None,
     }
 }
 
@@ -81,7 +80,7 @@ fn take_places(fields: &mut Fields) -> Result<usize, BadField>
 {
     let place = fields.place();
     match fields.letter()? {
-        't' => take_size(fields),
+        't' => fields.read(size_of),
         _ => Err(BadField { place }),
     }
 }

@@ -6,12 +6,12 @@
 -- step_in p x u         the step with the letter x, with its numbers in the next fields of u
 -- command_in u          a command in the next fields of u
 -- command_of bs         the command that the line bs writes, with no field after it
--- workers_in u          the number of workers, 3 or 4, in the next field
--- roster_in u           the kind of roster in the next field: 1 for the plain one
+-- workers_of f          the number of workers, 3 or 4, that the field f writes; workers_in u in the next field
+-- roster_of f           the kind of roster that the field f writes, 1 for the plain one; roster_in u in the next field
 -- setup_in u            `G`, the number of workers, and the kind of roster
 -- setup_of bs           the number of workers of a group that the line bs sets up, with no field after it
 -- Letters are bytes: C 67, D 68, F 70, G 71, L 76, P 80, Q 81, R 82, S 83, V 86, X 88.
-use Rattle.std.specs.Prelude.{◌≡◌, ℕ, cond, ◌||◌, List, Ok, Err, Result, ◌==◌}
+use Rattle.std.specs.Prelude.{◌≡◌, ℕ, cond, ◌||◌, List, Some, None, Ok, Err, Option, Result, ◌==◌}
 use Rattle.std.specs.Fn.{Once}
 use Rattle.pack.specs.Stored.{stored_of}
 use Rattle.pack.specs.declared.stored.StoredPackLine.{StoredPackLine}
@@ -63,11 +63,17 @@ command_in u = and_then (take_by letter_in u) (by_letter u.place)
 abbrev pub command_of : List ℕ → Result Command BadField
 command_of bs = whole_line command_in bs
 
+abbrev pub workers_of : List ℕ → Option ℕ
+workers_of f = elim (number_of f) [ None ↦ None | Some n ↦ cond (n == 3 || n == 4) (Some n) None ]
+
 abbrev pub workers_in : Unread → Taken ℕ
-workers_in u = and_then (take_by number_of u) (λ n v. done (cond (n == 3 || n == 4) (Ok n) (Err (bad_at u.place))) v)
+workers_in u = take_by workers_of u
+
+abbrev pub roster_of : List ℕ → Option Unit
+roster_of f = elim (number_of f) [ None ↦ None | Some k ↦ cond (k == 1) (Some tt) None ]
 
 abbrev pub roster_in : Unread → Taken Unit
-roster_in u = and_then (take_by number_of u) (λ k v. done (cond (k == 1) (Ok tt) (Err (bad_at u.place))) v)
+roster_in u = take_by roster_of u
 
 -- by the letter; any but G is bad at its place p
 abbrev pub setup_by : ℕ → ℕ → Unread → Taken ℕ

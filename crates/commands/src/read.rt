@@ -1,13 +1,13 @@
 // Reading a command, and the first line of a script, from text.
 ghost use Rattle.std.specs.Prelude.{◌≡◌, ℕ};
-ghost use Rattle.commands.specs.Commands.{Makes, MakesOfTwo, one_in, two_in, propose_in, step_in, command_in, command_of, workers_in, roster_in, setup_in, setup_of};
+ghost use Rattle.commands.specs.Commands.{Makes, MakesOfTwo, one_in, two_in, propose_in, step_in, command_in, command_of, workers_of, roster_of, setup_in, setup_of};
 ghost use Rattle.text.specs.Reading.{Takes};
 
 use crate::command::Command;
 use pack::StoredPackLine;
 use packtext::take_pack_line;
 use protocol::Step;
-use text::{BadField, Fields, parse_line};
+use text::{BadField, Fields, number_of, parse_line};
 
 // What `make` makes of the number in the next field.
 fn take_one<T, F: FnOnce(usize) -> T>(fields: &mut Fields, make: F) -> Result<T, BadField>
@@ -79,25 +79,23 @@ pub fn read_command(line: &[u8]) -> Result<Command, BadField>
     parse_line(line, take_command)
 }
 
-// The number of workers, 3 or 4.
-fn take_workers(fields: &mut Fields) -> Result<usize, BadField>
-    ensures { Takes workers_in fields.old result fields.new }
+// The number of workers that a field writes, 3 or 4.
+fn workers_of(field: &[u8]) -> Option<usize>
+    ensures { result ≡ workers_of field.now }
 {
-    let place = fields.place();
-    match fields.number()? {
-        workers @ (3 | 4) => Ok(workers as usize),
-        _ => Err(BadField { place }),
+    match number_of(field)? {
+        workers @ (3 | 4) => Some(workers as usize),
+        _ => None,
     }
 }
 
-// The kind of roster: 1, the plain one.
-fn take_roster(fields: &mut Fields) -> Result<(), BadField>
-    ensures { Takes roster_in fields.old result fields.new }
+// The kind of roster that a field writes: 1, the plain one.
+fn roster_of(field: &[u8]) -> Option<()>
+    ensures { result ≡ roster_of field.now }
 {
-    let place = fields.place();
-    match fields.number()? {
-        1 => Ok(()),
-        _ => Err(BadField { place }),
+    match number_of(field)? {
+        1 => Some(()),
+        _ => None,
     }
 }
 
@@ -108,8 +106,8 @@ fn take_setup(fields: &mut Fields) -> Result<usize, BadField>
     let place = fields.place();
     match fields.letter()? {
         'G' => {
-            let workers = take_workers(fields)?;
-            take_roster(fields)?;
+            let workers = fields.read(workers_of)?;
+            fields.read(roster_of)?;
             Ok(workers)
         }
         _ => Err(BadField { place }),

@@ -36,7 +36,7 @@ fn decimal_of(digits: &[u8]) -> Option<u64>
 }
 
 // The number that 1 to 10 decimal digits write, and none for any other field.
-pub(crate) fn number_of(field: &[u8]) -> Option<u64>
+pub fn number_of(field: &[u8]) -> Option<u64>
     ensures value { result ≡ number_of field.now }
     ensures bound { IfSome result (λ n. n < 10 ^ 10) }
 {

@@ -99,8 +99,8 @@ impl<'a> Fields<'a> {
         Ok(&rest[..length])
     }
 
-    // The next field as `parse` reads it.
-    fn read<T, F: FnOnce(&[u8]) -> Option<T>>(&mut self, parse: F) -> Result<T, BadField>
+    // The next field as `parse` reads it; one that it reads nothing from is bad, at its place.
+    pub fn read<T, F: FnOnce(&[u8]) -> Option<T>>(&mut self, parse: F) -> Result<T, BadField>
         requires { F.IsAlwaysCallable parse }
         ensures value { (rule : List ℕ → Option T) → Computes F.FnOnce parse rule → result ≡ read_by rule self.old }
         ensures given { IfOk result (λ v. (field : List ℕ) × FnOnceReturnsAt F.FnOnce parse field (Some v)) }

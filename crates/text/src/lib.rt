@@ -6,7 +6,7 @@ mod fields;
 mod lines;
 mod numbered;
 
-pub use bytes::number32_of;
+pub use bytes::{number_of, number32_of};
 pub use fields::{BadField, Fields, check_length, parse_line};
 pub use lines::Lines;
 pub use numbered::Numbered;

@@ -29,6 +29,7 @@ fn fill<K: Key>(
 {
     table.clear();
     let mut sheet = KeySheet::new();
+    // an `if let` and no `filter_map`: over that chain the check refuses `iterator-loop-line`, which it writes itself, and `returns-clause-after` stays open
     for k in 1..=to {
         if let Some(line) = group.line(worker, k) {
             sheet.apply(table, line);

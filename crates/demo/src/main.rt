@@ -13,7 +13,8 @@ use storage::Storage;
 use story::STORY;
 use text::Numbered;
 
-// Four workers (replicas), 64 cells each in three tables, 128 message places, and a roster of 32 entries.
+// Four workers (replicas), 64 cells each in three tables, 128 message places, and a roster of 32 entries: this program's
+// own sizes.
 const WORKERS: usize = 4;
 
 const CELLS: usize = LINES * WORKERS;

@@ -1,4 +1,5 @@
-// Pairs in a bare slice: the place and the words of a key, and the largest key.
+// Pairs in a bare slice: the place and the words of a key, and the largest key. A key table's methods hand their slice on to these, as
+// those of every table do whose memory is lent.
 ghost use Rattle.std.specs.Prelude.{◌≡◌};
 ghost use Rattle.std.specs.List.{position};
 ghost use Rattle.keylines.specs.Laws.{Largest};

@@ -105,6 +105,7 @@ mod tests {
     fn full_table(rt: HostRuntime) -> Result<(), Fail> {
         let mut places = vec![in rt.alloc(); place(0); 1025]?;
         let mut table = KeyTable::new(places.as_mut_slice());
+        // the numbers are the keys themselves
         for i in 0..1025 {
             let _ = put(&mut table, i, 1);
         }

@@ -28,7 +28,7 @@ const SECONDS_LEAST: u32 = 1;
 // The most seconds of a Drain or an Idle: a day.
 const SECONDS_MOST: u32 = 86_400;
 
-// Whether a Begin may set this charge, in milliampere-seconds.
+// Whether a Begin may set this charge, in milliampere-seconds. No range of std is open where it starts, so there are two comparisons.
 #[tactic(auto, using(crate::proofs::Literals::zero_is, crate::proofs::Literals::charge_most_is))]
 pub(crate) fn charge_fits(charge: f64) -> bool
     ensures { result ≡ fit_charge charge }

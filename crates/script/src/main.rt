@@ -11,7 +11,7 @@ use std::io;
 use storage::Storage;
 use text::{Lines, Numbered};
 
-// The message places of the group.
+// The message places of the group; each program has sizes of its own.
 const MESSAGES: usize = 128;
 // The entries of the roster (configuration log).
 const ENTRIES: usize = 32;

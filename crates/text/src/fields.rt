@@ -31,7 +31,7 @@ impl fmt::Display for BadField {
 #[derive(Drop)]
 pub struct Fields<'a> {
     line: &'a [u8],
-    // the index at which the next field begins; past the end where none is left
+    // the index at which the next field begins, by which its place is told; past the end where none is left
     next: usize,
 }
 

@@ -1,11 +1,11 @@
 // Works out a key sheet from lines of text on standard input, and prints what each line did.
 #![tactic(auto)]
 
-use channeltext::{ChannelSheet, Summary, read_places};
+use channeltext::{ChannelSheet, read_places};
 use input::read_input;
 use keylines::{Channel, Pair};
 use std::io;
-use text::{Lines, Numbered};
+use text::{Lines, Numbered, Summary};
 
 // Answers the lines after the first, with a sheet of so many places.
 fn answer_lines(rt: &HostRuntime, lines: Lines, places: usize) -> io::Result<()> {

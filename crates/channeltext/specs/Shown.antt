@@ -14,11 +14,11 @@ use Rattle.keylines.specs.Sheets.{Sheet, fits_line, applied}
 use Rattle.keylines.specs.declared.channels.Channel.{Channel}
 use Rattle.keylines.specs.declared.lines.ChannelLine.{ChannelLine}
 use Rattle.text.specs.declared.fields.BadField.{BadField}
+use Rattle.text.specs.declared.summary.Summary.{Summary}
 use Rattle.channeltext.specs.declared.read.Request.{Request}
 use Rattle.channeltext.specs.declared.read.Request.TheVariants as Asked
 use Rattle.channeltext.specs.declared.show.ChannelAnswer.{ChannelAnswer}
 use Rattle.channeltext.specs.declared.show.ChannelAnswer.TheVariants.{Fit, Unfit, Words, Largest}
-use Rattle.channeltext.specs.declared.show.Summary.{Summary}
 use Rattle.channeltext.specs.Requests.{request_of}
 
 -- the `eq` and the `above` of channels, written out, since only a clause can quote an impl
@@ -58,12 +58,12 @@ answer_text (Words None) = codes "none"
 answer_text (Largest (Some k)) = codes "largest " ++ decimal k.number
 answer_text (Largest None) = codes "none"
 
-abbrev pub summary_of : Sheet Channel → Summary
-summary_of s = record { used = length s.pairs; fit = s.fit; unfit = s.unfit }
+abbrev pub summary_of : Sheet Channel → Summary ℕ
+summary_of s = record { shown = length s.pairs; fit = s.fit; unfit = s.unfit }
 
 -- `sheet USED fit COUNT unfit COUNT`
-abbrev pub summary_text : Summary → List ℕ
-summary_text s = codes "sheet " ++ (decimal s.used ++ (codes " fit " ++ (decimal s.fit ++ (codes " unfit " ++ decimal s.unfit))))
+abbrev pub summary_text : Summary ℕ → List ℕ
+summary_text s = codes "sheet " ++ (decimal s.shown ++ (codes " fit " ++ (decimal s.fit ++ (codes " unfit " ++ decimal s.unfit))))
 
 abbrev pub sheet_text : Sheet Channel → List ℕ
 sheet_text s = summary_text (summary_of s)

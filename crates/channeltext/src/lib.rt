@@ -7,4 +7,4 @@ mod show;
 
 pub use read::{Request, read_places, read_request};
 pub use sheet::ChannelSheet;
-pub use show::{ChannelAnswer, Summary};
+pub use show::ChannelAnswer;

@@ -8,11 +8,11 @@ ghost use Rattle.keylines.specs.Limits.{capacity_of};
 ghost use Rattle.keylines.specs.Sheets.{applied, empty_sheet};
 
 use crate::read::{Request, read_request};
-use crate::show::{ChannelAnswer, Summary};
+use crate::show::ChannelAnswer;
 use keylines::{Channel, ChannelLine, Pair};
 use keys::{KeySheet, KeyTable};
 use std::fmt;
-use text::BadField;
+use text::{BadField, Summary};
 
 // A key sheet of channels with the key table that it works on, in a lent slice.
 #[derive(Drop)]
@@ -76,15 +76,15 @@ impl<'a> ChannelSheet<'a> {
     }
 }
 
-impl<'a> From<&ChannelSheet<'a>> for Summary {
+impl<'a> From<&ChannelSheet<'a>> for Summary<usize> {
     ghost from_gives = { λ sheet summary. summary ≡ summary_of (channel_sheet sheet.now) };
 
-    fn from(sheet: &ChannelSheet<'a>) -> Summary
+    fn from(sheet: &ChannelSheet<'a>) -> Summary<usize>
         ensures value { result ≡ summary_of (channel_sheet sheet.now) }
-        ensures text { ⟦<Summary as fmt::Display>⟧.output result ≡ Some (sheet_text (channel_sheet sheet.now)) }
+        ensures text { ⟦<Summary<usize> as fmt::Display>⟧.output result ≡ Some (sheet_text (channel_sheet sheet.now)) }
     {
         Summary {
-            used: sheet.table.len(),
+            shown: sheet.table.len(),
             fit: sheet.sheet.fit(),
             unfit: sheet.sheet.unfit(),
         }

@@ -1,6 +1,6 @@
-// What is shown of the answers to requests, and of a whole key sheet.
+// What is shown of the answers to requests.
 ghost use Rattle.std.specs.Prelude.{Some};
-ghost use Rattle.channeltext.specs.Shown.{answer_text, summary_text};
+ghost use Rattle.channeltext.specs.Shown.{answer_text};
 
 use keylines::Channel;
 use std::fmt;
@@ -16,15 +16,6 @@ pub enum ChannelAnswer {
     Largest(Option<Channel>),
 }
 
-// What is shown of a whole sheet and its table: the number of pairs, and how many lines were fit and unfit. It is
-// printed as `sheet USED fit COUNT unfit COUNT`.
-#[derive(Clone, Copy, PartialEq, Eq, Debug)]
-pub struct Summary {
-    pub used: usize,
-    pub fit: u32,
-    pub unfit: u32,
-}
-
 impl fmt::Display for ChannelAnswer {
     ghost output = { λ answer. Some (answer_text answer) };
 
@@ -36,14 +27,5 @@ impl fmt::Display for ChannelAnswer {
             ChannelAnswer::Largest(Some(key)) => write!(f, "largest {}", key.number),
             ChannelAnswer::Words(None) | ChannelAnswer::Largest(None) => write!(f, "none"),
         }
-    }
-}
-
-impl fmt::Display for Summary {
-    ghost output = { λ summary. Some (summary_text summary) };
-
-    fn fmt<W: fmt::Write>(&self, f: &mut fmt::Formatter<W>) -> fmt::Result {
-        let (used, fit, unfit) = (self.used, self.fit, self.unfit);
-        write!(f, "sheet {used} fit {fit} unfit {unfit}")
     }
 }

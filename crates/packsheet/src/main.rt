@@ -3,7 +3,7 @@
 
 use input::read_input;
 use pack::PackSheet;
-use packtext::{Summary, apply_text};
+use packtext::{apply_text, summary};
 use std::io;
 use text::{Lines, Numbered};
 
@@ -14,5 +14,5 @@ fn main(rt: HostRuntime) -> io::Result<()> {
         let answer = apply_text(&mut sheet, line);
         rt.println(Numbered { number, answer })?;
     }
-    rt.println(Summary::from(&sheet))
+    rt.println(summary(&sheet))
 }

@@ -13,11 +13,11 @@ use Rattle.pack.specs.Sheets.{fit_for, applied, sheet_of, remaining_of}
 use Rattle.pack.specs.declared.line.PackLine.{PackLine}
 use Rattle.pack.specs.declared.sheet.PackSheet.{PackSheet}
 use Rattle.text.specs.declared.fields.BadField.{BadField}
+use Rattle.text.specs.declared.summary.Summary.{Summary}
 use Rattle.packtext.specs.Written.{pack_line_of, good_lines}
 use Rattle.packtext.specs.declared.show.Answer.{Answer}
 use Rattle.packtext.specs.declared.show.Answer.TheVariants.{Fit, Unfit}
 use Rattle.packtext.specs.declared.show.Figures.{Figures}
-use Rattle.packtext.specs.declared.show.Summary.{Summary}
 
 abbrev pub cut : Float → ℕ
 cut x = to_unsigned 64 x
@@ -54,12 +54,12 @@ abbrev pub answer_text : Answer → List ℕ
 answer_text (Fit f) = codes "fit " ++ figures_text f
 answer_text (Unfit f) = codes "unfit " ++ figures_text f
 
-abbrev pub summary_of : PackSheet → Summary
-summary_of s = record { figures = figures_of s; fit = s.fit; unfit = s.unfit }
+abbrev pub summary_of : PackSheet → Summary Figures
+summary_of s = record { shown = figures_of s; fit = s.fit; unfit = s.unfit }
 
 -- `sheet CHARGE TIME fit COUNT unfit COUNT`
-abbrev pub summary_text : Summary → List ℕ
-summary_text s = codes "sheet " ++ (figures_text s.figures ++ (codes " fit " ++ (decimal s.fit ++ (codes " unfit " ++ decimal s.unfit))))
+abbrev pub summary_text : Summary Figures → List ℕ
+summary_text s = codes "sheet " ++ (figures_text s.shown ++ (codes " fit " ++ (decimal s.fit ++ (codes " unfit " ++ decimal s.unfit))))
 
 abbrev pub sheet_text : PackSheet → List ℕ
 sheet_text s = summary_text (summary_of s)

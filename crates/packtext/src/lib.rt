@@ -5,4 +5,4 @@ mod read;
 mod show;
 
 pub use read::{pack_line, take_pack_line};
-pub use show::{Answer, Figures, Summary, apply_text};
+pub use show::{Answer, Figures, apply_text, summary};

@@ -1,13 +1,13 @@
 // Working on a sheet by lines of text, and what is shown of it.
 ghost use Rattle.std.specs.Prelude.{◌≡◌, Some};
-ghost use Rattle.packtext.specs.Shown.{figures_of, sheet_after, answer_of, done_with, BookGrows, summary_of, figures_text, answer_text, summary_text, sheet_text};
+ghost use Rattle.packtext.specs.Shown.{figures_of, sheet_after, answer_of, done_with, BookGrows, summary_of, figures_text, answer_text, sheet_text};
 ghost use Rattle.pack.specs.Sheets.{applied};
 
 use crate::read::pack_line;
 use pack::{PackLine, PackSheet};
 use std::fmt;
 use std::num::saturating_f64_to_u64;
-use text::BadField;
+use text::{BadField, Summary};
 
 // What is shown of a sheet: its charge in milliampere-seconds and its remaining seconds, if there
 // are any, both rounded down. It is printed as `CHARGE TIME`, with `-` for no time.
@@ -25,15 +25,6 @@ pub enum Answer {
     Unfit(Figures),
 }
 
-// What is shown of a whole sheet: its figures, and how many of its lines were fit and unfit. It is
-// printed as `sheet CHARGE TIME fit COUNT unfit COUNT`.
-#[derive(Clone, Copy, PartialEq, Eq, Debug)]
-pub struct Summary {
-    pub figures: Figures,
-    pub fit: u32,
-    pub unfit: u32,
-}
-
 impl From<&PackSheet> for Figures {
     ghost from_gives = { λ sheet figures. figures ≡ figures_of sheet.now };
 
@@ -48,18 +39,15 @@ impl From<&PackSheet> for Figures {
     }
 }
 
-impl From<&PackSheet> for Summary {
-    ghost from_gives = { λ sheet summary. summary ≡ summary_of sheet.now };
-
-    fn from(sheet: &PackSheet) -> Summary
-        ensures value { result ≡ summary_of sheet.now }
-        ensures text { ⟦<Summary as fmt::Display>⟧.output result ≡ Some (sheet_text sheet.now) }
-    {
-        Summary {
-            figures: Figures::from(sheet),
-            fit: sheet.fit(),
-            unfit: sheet.unfit(),
-        }
+// What is shown of a whole sheet. It is printed as `sheet CHARGE TIME fit COUNT unfit COUNT`.
+pub fn summary(sheet: &PackSheet) -> Summary<Figures>
+    ensures value { result ≡ summary_of sheet.now }
+    ensures text { ⟦<Summary<Figures> as fmt::Display>⟧.output result ≡ Some (sheet_text sheet.now) }
+{
+    Summary {
+        shown: Figures::from(sheet),
+        fit: sheet.fit(),
+        unfit: sheet.unfit(),
     }
 }
 
@@ -107,14 +95,5 @@ impl fmt::Display for Answer {
             Answer::Fit(figures) => write!(f, "fit {figures}"),
             Answer::Unfit(figures) => write!(f, "unfit {figures}"),
         }
-    }
-}
-
-impl fmt::Display for Summary {
-    ghost output = { λ summary. Some (summary_text summary) };
-
-    fn fmt<W: fmt::Write>(&self, f: &mut fmt::Formatter<W>) -> fmt::Result {
-        let (figures, fit, unfit) = (self.figures, self.fit, self.unfit);
-        write!(f, "sheet {figures} fit {fit} unfit {unfit}")
     }
 }

@@ -24,7 +24,7 @@ fn fill<K: Key>(
     worker: usize,
     to: usize,
 ) -> KeySheet
-    ensures after { (m' : RosterModel (EntryOf (ChannelLine K))) (ls : List (ChannelLine K)) → book_to (store_of group.now m') worker to ≡ Some ls → sheet_now table.new result ≡ sheet_of K.eq (table_capacity table.old) ls }
+    ensures after { (m' : RosterModel (EntryOf (ChannelLine K))) (ls : List (ChannelLine K)) → book_to (store_of group.now m') worker to ≡ Some ls → sheet_now table.new result ≡ sheet_of K.alike (table_capacity table.old) ls }
     ensures slice { SameSlice table.old table.new }
 {
     table.clear();
@@ -45,10 +45,10 @@ pub fn key_sheet<K: Key>(
     worker: usize,
     to: usize,
 ) -> Result<KeySheet, Refusal<SheetFault>>
-    ensures value { (m' : RosterModel (EntryOf (ChannelLine K))) → key_sheet_got table.new result ≡ key_sheet_to K.eq (table_capacity table.old) (store_of group.now m') worker to }
+    ensures value { (m' : RosterModel (EntryOf (ChannelLine K))) → key_sheet_got table.new result ≡ key_sheet_to K.alike (table_capacity table.old) (store_of group.now m') worker to }
     ensures refused { (f : RefusalOf FaultOf) → result ≡ Err f → table.new ≡ table.old }
     ensures slice { SameSlice table.old table.new }
-    ensures equal { (m' : RosterModel (EntryOf (ChannelLine K))) → EqualKeySheets K.eq (table_capacity table.old) (store_of group.now m') worker to }
+    ensures equal { (m' : RosterModel (EntryOf (ChannelLine K))) → EqualKeySheets K.alike (table_capacity table.old) (store_of group.now m') worker to }
 {
     ask_to(group, worker, to).map_err(|fault| Refusal { fault, worker })?;
     Ok(fill(group, table, worker, to))

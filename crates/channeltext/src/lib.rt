@@ -6,5 +6,5 @@ mod sheet;
 mod show;
 
 pub use read::{Request, read_places, read_request};
-pub use sheet::ChannelSheet;
+pub use sheet::{ChannelSheet, apply_text, summary};
 pub use show::ChannelAnswer;

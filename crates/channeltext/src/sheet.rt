@@ -1,4 +1,4 @@
-// A key sheet of channels, worked on by lines of text.
+// A key sheet of channels and its table, worked on by lines of text: a caller's own two, or both in one.
 ghost use Rattle.std.specs.Prelude.{◌≡◌, Some, length};
 ghost use Rattle.channeltext.specs.Channels.{KeepsSlice, channel_sheet, channel_capacity};
 ghost use Rattle.channeltext.specs.Requests.{good_lines};
@@ -6,6 +6,7 @@ ghost use Rattle.channeltext.specs.Shown.{same_channel, line_answer, answer_to, 
 ghost use Rattle.keylines.specs.Laws.{LawsGoOn};
 ghost use Rattle.keylines.specs.Limits.{capacity_of};
 ghost use Rattle.keylines.specs.Sheets.{applied, empty_sheet};
+ghost use Rattle.keys.specs.Views.{SameSlice, table_capacity, sheet_now};
 
 use crate::read::{Request, read_request};
 use crate::show::ChannelAnswer;
@@ -13,6 +14,70 @@ use keylines::{Channel, ChannelLine, Pair};
 use keys::{KeySheet, KeyTable};
 use std::fmt;
 use text::{BadField, Summary};
+
+// Applies a channel line, and says whether it was fit.
+fn answer_line(
+    sheet: &mut KeySheet,
+    table: &mut KeyTable<Channel>,
+    line: ChannelLine<Channel>,
+) -> ChannelAnswer
+    ensures value { result ≡ line_answer (table_capacity table.old) (sheet_now table.old sheet.old) line }
+    ensures after { sheet_now table.new sheet.new ≡ applied same_channel (table_capacity table.old) (sheet_now table.old sheet.old) line }
+    ensures slice { SameSlice table.old table.new }
+{
+    let fit = table.fits(line);
+    sheet.apply(table, line);
+    let used = table.len();
+    if fit {
+        ChannelAnswer::Fit(used)
+    } else {
+        ChannelAnswer::Unfit(used)
+    }
+}
+
+// Does what a request asks for, and says what was done.
+fn answer_request(
+    sheet: &mut KeySheet,
+    table: &mut KeyTable<Channel>,
+    request: Request,
+) -> ChannelAnswer
+    ensures value { result ≡ answer_to (table_capacity table.old) (sheet_now table.old sheet.old) request }
+    ensures after { sheet_now table.new sheet.new ≡ after_request (table_capacity table.old) (sheet_now table.old sheet.old) request }
+    ensures slice { SameSlice table.old table.new }
+{
+    match request {
+        Request::Line(line) => answer_line(sheet, table, line),
+        Request::Find(key) => ChannelAnswer::Words(table.find(key)),
+        Request::Largest => ChannelAnswer::Largest(table.largest()),
+    }
+}
+
+// Does what a line of text asks for, on a caller's own sheet and table, and says what was done. Only a channel line changes them.
+pub fn apply_text(
+    sheet: &mut KeySheet,
+    table: &mut KeyTable<Channel>,
+    line: &[u8],
+) -> Result<ChannelAnswer, BadField>
+    ensures value { result ≡ answer_of (table_capacity table.old) (sheet_now table.old sheet.old) line.now }
+    ensures after { sheet_now table.new sheet.new ≡ sheet_after (table_capacity table.old) (sheet_now table.old sheet.old) line.now }
+    ensures slice { SameSlice table.old table.new }
+    ensures law { LawsGoOn same_channel (table_capacity table.old) (sheet_now table.old sheet.old) (good_lines line.now) (sheet_now table.new sheet.new) }
+{
+    let request = read_request(line)?;
+    Ok(answer_request(sheet, table, request))
+}
+
+// What is shown of a whole sheet and its table. It is printed as `sheet USED fit COUNT unfit COUNT`.
+pub fn summary(sheet: &KeySheet, table: &KeyTable<Channel>) -> Summary<usize>
+    ensures value { result ≡ summary_of (sheet_now table.now sheet.now) }
+    ensures text { ⟦<Summary<usize> as fmt::Display>⟧.output result ≡ Some (sheet_text (sheet_now table.now sheet.now)) }
+{
+    Summary {
+        shown: table.len(),
+        fit: sheet.fit(),
+        unfit: sheet.unfit(),
+    }
+}
 
 // A key sheet of channels with the key table that it works on, in a lent slice.
 #[derive(Drop)]
@@ -35,35 +100,6 @@ impl<'a> ChannelSheet<'a> {
         }
     }
 
-    // Applies a channel line, and says whether it was fit.
-    fn answer_line(&mut self, line: ChannelLine<Channel>) -> ChannelAnswer
-        ensures value { result ≡ line_answer (channel_capacity self.old) (channel_sheet self.old) line }
-        ensures after { channel_sheet self.new ≡ applied same_channel (channel_capacity self.old) (channel_sheet self.old) line }
-        ensures slice { KeepsSlice self.old self.new }
-    {
-        let fit = self.table.fits(line);
-        self.sheet.apply(&mut self.table, line);
-        let used = self.table.len();
-        if fit {
-            ChannelAnswer::Fit(used)
-        } else {
-            ChannelAnswer::Unfit(used)
-        }
-    }
-
-    // Does what a request asks for, and says what was done.
-    fn answer_request(&mut self, request: Request) -> ChannelAnswer
-        ensures value { result ≡ answer_to (channel_capacity self.old) (channel_sheet self.old) request }
-        ensures after { channel_sheet self.new ≡ after_request (channel_capacity self.old) (channel_sheet self.old) request }
-        ensures slice { KeepsSlice self.old self.new }
-    {
-        match request {
-            Request::Line(line) => self.answer_line(line),
-            Request::Find(key) => ChannelAnswer::Words(self.table.find(key)),
-            Request::Largest => ChannelAnswer::Largest(self.table.largest()),
-        }
-    }
-
     // Does what a line of text asks for, and says what was done. Only a channel line changes the sheet.
     pub fn apply_text(&mut self, line: &[u8]) -> Result<ChannelAnswer, BadField>
         ensures value { result ≡ answer_of (channel_capacity self.old) (channel_sheet self.old) line.now }
@@ -71,8 +107,7 @@ impl<'a> ChannelSheet<'a> {
         ensures slice { KeepsSlice self.old self.new }
         ensures law { LawsGoOn same_channel (channel_capacity self.old) (channel_sheet self.old) (good_lines line.now) (channel_sheet self.new) }
     {
-        let request = read_request(line)?;
-        Ok(self.answer_request(request))
+        apply_text(&mut self.sheet, &mut self.table, line)
     }
 }
 
@@ -83,10 +118,6 @@ impl<'a> From<&ChannelSheet<'a>> for Summary<usize> {
         ensures value { result ≡ summary_of (channel_sheet sheet.now) }
         ensures text { ⟦<Summary<usize> as fmt::Display>⟧.output result ≡ Some (sheet_text (channel_sheet sheet.now)) }
     {
-        Summary {
-            shown: sheet.table.len(),
-            fit: sheet.sheet.fit(),
-            unfit: sheet.sheet.unfit(),
-        }
+        summary(&sheet.sheet, &sheet.table)
     }
 }

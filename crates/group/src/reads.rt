@@ -22,7 +22,8 @@ impl<'a, L: Copy> Group<'a, L> {
         self.memory.messages.len()
     }
 
-    // The line (log entry) that worker `w` holds as line `k`, if it holds one.
+    // The line (log entry) that worker `w` holds as line `k`, if it holds one. A worker that the group does not have holds nothing.
+    #[tactic(auto, using(crate::proofs::Strangers::stranger_none))]
     pub fn line(&self, w: usize, k: usize) -> Option<L>
         ensures { (m' : RosterModel (EntryOf L)) → result ≡ holds (store_of self.now m') w k }
     {

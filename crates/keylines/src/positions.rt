@@ -12,11 +12,27 @@ pub struct ChannelPosition {
 }
 
 impl Key for ChannelPosition {
+    ghost alike = { λ x y. (x.number == y.number) && x.position == y.position };
+
     ghost exact = { Prim.search rules };
+
+    ghost itself = { Prim.search rules };
+
+    fn same(&self, other: &Self) -> bool {
+        self == other
+    }
 }
 
 impl OrderedKey for ChannelPosition {
     ghost above = { λ x y. nat_lt y.number x.number || (x.number == y.number && nat_lt y.position x.position) };
 
-    ghost ordered = { Prim.search rules };
+    ghost total = { Prim.search rules };
+
+    ghost transitive = { Prim.search rules };
+
+    ghost strict = { Prim.search rules };
+
+    fn exceeds(&self, other: &Self) -> bool {
+        self > other
+    }
 }

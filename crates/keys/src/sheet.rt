@@ -37,9 +37,9 @@ impl KeySheet {
 
     // Applies one line to the table, and counts it as fit or unfit.
     pub fn apply<K: Key>(&mut self, table: &mut KeyTable<K>, line: ChannelLine<K>)
-        ensures after { sheet_now table.new self.new ≡ applied K.eq (table_capacity table.old) (sheet_now table.old self.old) line }
+        ensures after { sheet_now table.new self.new ≡ applied K.alike (table_capacity table.old) (sheet_now table.old self.old) line }
         ensures slice { SameSlice table.old table.new }
-        ensures law { LawsGoOn K.eq (table_capacity table.old) (sheet_now table.old self.old) (line ∷ []) (sheet_now table.new self.new) }
+        ensures law { LawsGoOn K.alike (table_capacity table.old) (sheet_now table.old self.old) (line ∷ []) (sheet_now table.new self.new) }
     {
         let fit = table.apply(line);
         self.count(fit);
@@ -47,10 +47,10 @@ impl KeySheet {
 
     // Applies lines to the table in their order, and counts them.
     pub fn apply_all<K: Key>(&mut self, table: &mut KeyTable<K>, lines: &[ChannelLine<K>])
-        ensures after { sheet_now table.new self.new ≡ worked_on K.eq (table_capacity table.old) (sheet_now table.old self.old) lines.now }
+        ensures after { sheet_now table.new self.new ≡ worked_on K.alike (table_capacity table.old) (sheet_now table.old self.old) lines.now }
         ensures slice { SameSlice table.old table.new }
-        ensures law { LawsGoOn K.eq (table_capacity table.old) (sheet_now table.old self.old) lines.now (sheet_now table.new self.new) }
-        ensures equal { SheetsAgree K.eq lines.now table.old self.old table.new self.new }
+        ensures law { LawsGoOn K.alike (table_capacity table.old) (sheet_now table.old self.old) lines.now (sheet_now table.new self.new) }
+        ensures equal { SheetsAgree K.alike lines.now table.old self.old table.new self.new }
     {
         for line in lines {
             self.apply(table, *line);

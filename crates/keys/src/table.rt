@@ -65,14 +65,14 @@ impl<'a, K: Key> KeyTable<'a, K> {
 
     // The words of a key, if it is held.
     pub fn find(&self, key: K) -> Option<[u64; 2]>
-        ensures { result ≡ words_of K.eq key (table_pairs self.now) }
+        ensures { result ≡ words_of K.alike key (table_pairs self.now) }
     {
         find_words(self.used_pairs(), &key)
     }
 
     // Whether a line is fit: an erase always, a put where its key is held or a place is free.
     pub fn fits(&self, line: ChannelLine<K>) -> bool
-        ensures { result ≡ fits_line K.eq (table_capacity self.now) (table_pairs self.now) line }
+        ensures { result ≡ fits_line K.alike (table_capacity self.now) (table_pairs self.now) line }
     {
         match line {
             ChannelLine::Put(key, _) => {
@@ -84,9 +84,9 @@ impl<'a, K: Key> KeyTable<'a, K> {
 
     // Stores the words under the key. Whether they fit: where the key is not held and no place is free, nothing changes.
     pub fn put(&mut self, key: K, words: [u64; 2]) -> bool
-        ensures value { result ≡ room_for K.eq (table_capacity self.old) key (table_pairs self.old) }
-        ensures after { table_pairs self.new ≡ put_pairs K.eq (table_capacity self.old) key words (table_pairs self.old) }
-        ensures law { PutLaw K.eq key words result (table_pairs self.old) (table_pairs self.new) }
+        ensures value { result ≡ room_for K.alike (table_capacity self.old) key (table_pairs self.old) }
+        ensures after { table_pairs self.new ≡ put_pairs K.alike (table_capacity self.old) key words (table_pairs self.old) }
+        ensures law { PutLaw K.alike key words result (table_pairs self.old) (table_pairs self.new) }
         ensures refused { result ≡ false → self.new.pairs.now ≡ self.old.pairs.now }
         ensures slice { SameSlice self.old self.new }
     {
@@ -105,8 +105,8 @@ impl<'a, K: Key> KeyTable<'a, K> {
 
     // Removes the pair with this key, if there is one; the last pair takes its place.
     pub fn erase(&mut self, key: K)
-        ensures after { table_pairs self.new ≡ erased_pairs K.eq key (table_pairs self.old) }
-        ensures law { EraseLaw K.eq key (table_pairs self.old) (table_pairs self.new) }
+        ensures after { table_pairs self.new ≡ erased_pairs K.alike key (table_pairs self.old) }
+        ensures law { EraseLaw K.alike key (table_pairs self.old) (table_pairs self.new) }
         ensures slice { SameSlice self.old self.new }
     {
         if let Some(i) = place(self.used_pairs(), &key) {
@@ -117,8 +117,8 @@ impl<'a, K: Key> KeyTable<'a, K> {
 
     // Puts or erases as the line says. Whether the line is fit: where it is not, nothing changes.
     pub fn apply(&mut self, line: ChannelLine<K>) -> bool
-        ensures value { result ≡ fits_line K.eq (table_capacity self.old) (table_pairs self.old) line }
-        ensures after { table_pairs self.new ≡ line_pairs K.eq (table_capacity self.old) (table_pairs self.old) line }
+        ensures value { result ≡ fits_line K.alike (table_capacity self.old) (table_pairs self.old) line }
+        ensures after { table_pairs self.new ≡ line_pairs K.alike (table_capacity self.old) (table_pairs self.old) line }
         ensures slice { SameSlice self.old self.new }
     {
         match line {

@@ -1,8 +1,50 @@
 // Tests of the key table and the key sheet on small examples and at the limits of a slice.
 #![tactic(auto)]
 
+ghost use Rattle.std.specs.Prelude.{◌==◌, nat_lt};
+ghost use Rattle.std.proofs.Common.{rules};
+
+// A kind of key whose type has no `==` and no `<`: its sameness and its order are its own.
+#[cfg(test)]
+mod tags {
+    use keylines::{Key, OrderedKey};
+
+    #[derive(Clone, Copy)]
+    pub struct Tag {
+        pub serial: u32,
+    }
+
+    impl Key for Tag {
+        ghost alike = { λ x y. (x.serial == y.serial) };
+
+        ghost exact = { Prim.search rules };
+
+        ghost itself = { Prim.search rules };
+
+        fn same(&self, other: &Self) -> bool {
+            self.serial == other.serial
+        }
+    }
+
+    // The newest tag, which has the smallest serial number, is the largest.
+    impl OrderedKey for Tag {
+        ghost above = { λ x y. nat_lt x.serial y.serial };
+
+        ghost total = { Prim.search rules };
+
+        ghost transitive = { Prim.search rules };
+
+        ghost strict = { Prim.search rules };
+
+        fn exceeds(&self, other: &Self) -> bool {
+            self.serial < other.serial
+        }
+    }
+}
+
 #[cfg(test)]
 mod tests {
+    use crate::tags::Tag;
     use keylines::{Channel, ChannelLine, ChannelPosition, Pair};
     use keys::{KeySheet, KeyTable};
     use std::alloc::AllocError;
@@ -170,6 +212,26 @@ mod tests {
         match table.largest() {
             Some(k) => {
                 assert!(rt; k.number == 2 && k.position == 4);
+                Ok(())
+            },
+            None => Err(Fail::new("no largest key")),
+        }
+    }
+
+    #[test]
+    fn kinds_of_their_own(rt: HostRuntime) -> Result<(), Fail> {
+        let mut places = [Pair {
+            key: Tag { serial: 0 },
+            words: [0, 0],
+        }; 2];
+        let mut table = KeyTable::new(&mut places);
+        assert!(rt; table.put(Tag { serial: 9 }, [1, 0]));
+        assert!(rt; table.put(Tag { serial: 4 }, [2, 0]));
+        assert!(rt; !table.put(Tag { serial: 7 }, [3, 0]));
+        assert_eq!(rt; table.find(Tag { serial: 9 }), Some([1, 0]));
+        match table.largest() {
+            Some(k) => {
+                assert_eq!(rt; k.serial, 4);
                 Ok(())
             },
             None => Err(Fail::new("no largest key")),

@@ -1,4 +1,5 @@
 // A pack line as whole numbers, as it lies in cells, messages and roster tables.
+ghost use Rattle.std.specs.Prelude.{◌≡◌, T};
 ghost use Rattle.pack.specs.Stored.{IsStoredForm, IsRestoredLine};
 
 use crate::line::PackLine;
@@ -14,6 +15,16 @@ pub enum StoredPackLine {
     Drain(u64, u32),
     // the seconds
     Idle(u32),
+}
+
+impl StoredPackLine {
+    // Whether both are the same line: yes exactly when all their numbers are equal.
+    pub fn is_same(&self, other: &StoredPackLine) -> bool
+        ensures equal { T result → self.now ≡ other.now }
+        ensures all { self.now ≡ other.now → T result }
+    {
+        self == other
+    }
 }
 
 impl From<PackLine> for StoredPackLine {

@@ -1,7 +1,7 @@
 // Reading a pack line from text.
 ghost use Rattle.std.specs.Prelude.{◌≡◌};
 ghost use Rattle.packtext.specs.Written.{pack_line_in, pack_line_of, begin_in, drain_in, idle_in};
-ghost use Rattle.text.specs.Reading.{Takes};
+ghost use Rattle.text.specs.Reading.{FromLine, Takes};
 
 use pack::PackLine;
 use text::{BadField, Fields, parse_line};
@@ -30,7 +30,8 @@ fn take_idle(fields: &mut Fields) -> Result<PackLine, BadField>
 
 // Takes the fields of one pack line, `b CHARGE`, `d CURRENT SECONDS` or `i SECONDS`; fields may follow.
 pub fn take_pack_line(fields: &mut Fields) -> Result<PackLine, BadField>
-    ensures { Takes pack_line_in fields.old result fields.new }
+    ensures takes { Takes pack_line_in fields.old result fields.new }
+    ensures left { FromLine fields.old }
 {
     let place = fields.place();
     match fields.letter()? {

@@ -4,6 +4,7 @@
 -- space             the byte between two fields
 -- Unread            the place of the next field, counted from 1, and the fields that are left
 -- unread_at bs i    what is left of the line bs, where the next field begins at the index i
+-- FromLine u        u is what is left of some line, where the next field begins at an index within it or just past its end
 -- bad_at n          the refusal of the field at the place n
 -- length_check bs   the refusal of a line of more than line_most bytes
 -- contents r        what a field that was read holds
@@ -24,7 +25,7 @@
 -- number32_in f     the field as a number that fits 32 bits
 -- end_of u          the refusal of a field that is too many
 -- Parted bs fs      fs are the fields of the line bs: with single spaces between them they are the line again, and none has a space
-use Rattle.std.specs.Prelude.{◌≡◌, ℕ, ◌+◌, cond, List, [], ◌∷◌, length, drop, Some, None, Ok, Err, Option, Result, ◌==◌, nat_le}
+use Rattle.std.specs.Prelude.{◌≡◌, ℕ, ◌+◌, ◌≤◌, cond, List, [], ◌∷◌, length, drop, Some, None, Ok, Err, Option, Result, ◌==◌, nat_le}
 use Rattle.std.specs.Borrow.{Bor, MutBor}
 use Rattle.std.specs.Fn.{Once, FnOnceReturnsAt, FnOnceReturnsAtMut}
 use Rattle.std.specs.List.{AllByRecursion, join_with_byte, slice_split}
@@ -44,6 +45,12 @@ pub record Unread : Type 0 where
 
 abbrev pub unread_at : List ℕ → ℕ → Unread
 unread_at bs i = record { place = i + 1; fields = cond (nat_le i (length bs)) (slice_split (λ b. b == space) (drop i bs)) [] }
+
+pub record FromLine (u : Unread) : Type 0 where
+  pub line : List ℕ
+  pub next : ℕ
+  pub within : next ≤ length line + 1
+  pub left : u ≡ unread_at line next
 
 abbrev pub bad_at : ℕ → BadField
 bad_at n = record { place = n }

@@ -1,7 +1,7 @@
 // The fields of one line of text, and which field is bad.
 ghost use Rattle.std.specs.Prelude.{◌≡◌, ℕ, ◌+◌, ◌^◌, ◌<◌, ◌≤◌, List, length, Some, Option, IfOk};
 ghost use Rattle.std.specs.Fn.{FnOnceReturnsAt};
-ghost use Rattle.text.specs.Reading.{Parted, Taken, Unread, Computes, Reads, length_check, contents, unread_at, first_field, read_by, past_field, letter_in, number32_in, end_of, whole_line};
+ghost use Rattle.text.specs.Reading.{FromLine, Parted, Taken, Unread, Computes, Reads, length_check, contents, unread_at, first_field, read_by, past_field, letter_in, number32_in, end_of, whole_line};
 ghost use Rattle.text.specs.Texts.{number_of};
 ghost use Rattle.text.specs.Shown.{bad_text};
 
@@ -82,7 +82,8 @@ impl<'a> Fields<'a> {
 
     // The place of the next field; where none is left, where it would stand.
     pub fn place(&self) -> usize
-        ensures { result ≡ self.now.place }
+        ensures value { result ≡ self.now.place }
+        ensures left { FromLine self.now }
     {
         self.next + 1
     }
@@ -91,6 +92,7 @@ impl<'a> Fields<'a> {
     pub fn field(&mut self) -> Result<&'a [u8], BadField>
         ensures value { contents result ≡ first_field self.old }
         ensures after { self.new ≡ past_field self.old }
+        ensures left { FromLine self.old }
     {
         let place = self.place();
         let rest = self.line.get(self.next..).ok_or(BadField { place })?;
@@ -105,6 +107,7 @@ impl<'a> Fields<'a> {
         ensures value { (rule : List ℕ → Option T) → Computes F.FnOnce parse rule → result ≡ read_by rule self.old }
         ensures given { IfOk result (λ v. (field : List ℕ) × FnOnceReturnsAt F.FnOnce parse field (Some v)) }
         ensures after { self.new ≡ past_field self.old }
+        ensures left { FromLine self.old }
     {
         let place = self.place();
         parse(self.field()?).ok_or(BadField { place })
@@ -114,6 +117,7 @@ impl<'a> Fields<'a> {
     pub fn letter(&mut self) -> Result<char, BadField>
         ensures value { result ≡ read_by letter_in self.old }
         ensures after { self.new ≡ past_field self.old }
+        ensures left { FromLine self.old }
     {
         self.read(letter_of)
     }
@@ -123,6 +127,7 @@ impl<'a> Fields<'a> {
         ensures value { result ≡ read_by number_of self.old }
         ensures bound { IfOk result (λ n. n < 10 ^ 10) }
         ensures after { self.new ≡ past_field self.old }
+        ensures left { FromLine self.old }
     {
         self.read(number_of)
     }
@@ -131,13 +136,15 @@ impl<'a> Fields<'a> {
     pub fn number32(&mut self) -> Result<u32, BadField>
         ensures value { result ≡ read_by number32_in self.old }
         ensures after { self.new ≡ past_field self.old }
+        ensures left { FromLine self.old }
     {
         self.read(number32_of)
     }
 
     // Refuses one field more than there should be.
     pub fn end(&self) -> Result<(), BadField>
-        ensures { result ≡ end_of self.now }
+        ensures value { result ≡ end_of self.now }
+        ensures left { FromLine self.now }
     {
         if self.next <= self.line.len() {
             return Err(BadField {

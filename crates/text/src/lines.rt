@@ -6,22 +6,22 @@ ghost use Rattle.text.specs.Texts.{lines_of};
 use crate::bytes::run_length;
 use std::marker::Model;
 
-// The lines of a text that are still to come, each without its newline.
+// The lines of a text that are still to come, each without its newline. Its value is the text that is left.
 #[derive(Drop)]
 pub struct Lines<'a> {
     rest: &'a [u8],
 }
 
 impl<'a> Model for Lines<'a> {
-    ghost Value = { List (List ℕ) };
+    ghost Value = { List ℕ };
 
-    ghost view = { λ t. lines_of t.rest.now };
+    ghost view = { λ t. t.rest.now };
 }
 
 impl<'a> Lines<'a> {
     // The lines of a text, all to come.
     pub fn new(text: &'a [u8]) -> Lines<'a>
-        ensures { result ≡ lines_of text.now }
+        ensures { result ≡ text.now }
     {
         Lines { rest: text }
     }
@@ -30,9 +30,9 @@ impl<'a> Lines<'a> {
 impl<'a> Iterator for Lines<'a> {
     type Item = &'a [u8];
 
-    ghost next_gives = { YieldsFirstRef (λ t. t) };
+    ghost next_gives = { YieldsFirstRef lines_of };
 
-    ghost remaining = { item_count (λ t. t) };
+    ghost remaining = { item_count lines_of };
 
     fn next(&mut self) -> Option<&'a [u8]> {
         if self.rest.is_empty() {

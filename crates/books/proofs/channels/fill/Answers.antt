@@ -11,7 +11,7 @@ use Rattle.books.proofs.channels.fill.Goals.{in-Some, in_default}
 
 pub loop-k-preserved : goal.loop-k-preserved
 loop-k-preserved g c =
-    let eq = g.K.PartialEq.eq in
+    let eq = g.K.Key.alike in
     let size = table_capacity c.clear.new.self in
     let k = c.loop-k.k in
     let before = c.loop-k.table in
@@ -35,11 +35,11 @@ pub returns-clause-after : goal.returns-clause-after
 returns-clause-after g c m ls e =
     let same : c.loop-k.k - 1 ≡ c.args.to = omega arith in
     let size : table_capacity c.clear.new.self ≡ table_capacity c.args.table.now = ap (λ xs. capacity_of (length xs)) c.clear.ensures.same in
-    c.loop-k.invariant.filled m ls (ap (book_to (store_of c.args.group.now m) c.args.worker) same ∙ e) ∙ ap (λ n. sheet_of g.K.PartialEq.eq n ls) size
+    c.loop-k.invariant.filled m ls (ap (book_to (store_of c.args.group.now m) c.args.worker) same ∙ e) ∙ ap (λ n. sheet_of g.K.Key.alike n ls) size
 
 pub returns-after-line-clause-after : goal.returns-after-line-clause-after
 returns-after-line-clause-after g c m ls e =
-    let eq = g.K.PartialEq.eq in
+    let eq = g.K.Key.alike in
     let first = c.clear.new.self in
     let k = c.loop-k.k in
     let before = c.loop-k.table in

@@ -11,6 +11,6 @@ use Rattle.books.proofs.channels.fill.Given as goal
 abbrev pub invariant-loop-k : goal.invariant-loop-k
 invariant-loop-k g l = record {
   within : l.k ≤ l.to + 1;
-  filled : (m : RosterModel (Entry (ChannelLine g.row.K.Denot))) → Filled g.K.PartialEq.eq (table_capacity l.initial.table) (store_of l.group m) l.worker (l.k - 1) (sheet_now l.table l.sheet);
+  filled : (m : RosterModel (Entry (ChannelLine g.row.K.Denot))) → Filled g.K.Key.alike (table_capacity l.initial.table) (store_of l.group m) l.worker (l.k - 1) (sheet_now l.table l.sheet);
   slice : SameSlice l.initial.table l.table;
 }

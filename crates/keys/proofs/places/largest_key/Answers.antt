@@ -1,24 +1,19 @@
--- `max` folds over the keys of the pairs, and its answer is the fold that the clause names; the law follows for it.
-use Rattle.std.proofs.Common.{◌≡◌, refl, sym, ap, ◌∙◌, subst, rules}
-use Rattle.std.proofs.lemmas.Iterator.{YieldsList-from_slice, YieldsList-from_map}
-use Rattle.std.proofs.lemmas.Iterator.Consumers.{reduce_from_yields_List}
-use Rattle.std.specs.Slice.Iter.{iter_rest}
-use Rattle.std.specs.Ordering.{max_by_ordering}
+-- A turn takes one key more into the fold; the law follows for all pairs.
+use Rattle.std.proofs.Common.{◌≡◌, sym, ap, ◌∙◌, subst, arith, rules}
+use Rattle.std.proofs.lemmas.List.{take_all}
+use Rattle.std.proofs.lemmas.List.Sums.{fold_more}
 use Rattle.keylines.specs.Laws.{Largest}
 use Rattle.keylines.specs.Pairs.{largest_of}
-use Rattle.keylines.proofs.Tops.{largest-max, largest_law}
+use Rattle.keylines.proofs.Tops.{largest_law}
 use Rattle.keys.proofs.places.largest_key.Goals as goal
+
+pub loop-pair-preserved : goal.loop-pair-preserved
+loop-pair-preserved g c = search (rules, fold_more)
 
 pub returns : goal.returns
 returns g c =
     let ps = c.args.pairs.now in
-    let cmp = g.K.Ord.cmp in
     let above = g.K.OrderedKey.above in
-    let k = g.met.K in
-    let keys = YieldsList-from_map _ (λ p. p.key) (YieldsList-from_slice ps (ap iter_rest c.map.ensures.source ∙ c.iter.ensures.rest)) refl (λ x r q k. search rules) in
-    let e : c.max.result ≡ largest_of above ps = reduce_from_yields_List (λ b k. max_by_ordering (cmp b k) b k) c.map.result c.max.result c.max.ensures.ran keys
-    ∙ largest-max g.K.PartialEq.eq cmp above k.Ord.total k.Ord.matches_eq k.Key.exact k.OrderedKey.ordered ps in
-    record {
-      value = e;
-      law = subst (Largest above ps) (sym e) (largest_law g.K.PartialEq.eq cmp above k.Ord.total k.Ord.matches_eq k.Key.exact k.OrderedKey.ordered ps);
-    }
+    let k = g.met.K.OrderedKey in
+    let e : c.loop-pair.best ≡ largest_of above ps = c.loop-pair.invariant ∙ ap (largest_of above) (take_all c.loop-pair.pair-index ps (omega arith)) in
+    record { value = e; law = subst (Largest above ps) (sym e) (largest_law above k.total k.transitive k.strict ps) }

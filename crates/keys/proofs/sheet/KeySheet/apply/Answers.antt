@@ -8,4 +8,4 @@ pub returns-clause-law : goal.returns-clause-law
 returns-clause-law g c before f =
     let t = c.args.table.now in
     let s = c.args.self.now in
-    lawful_on g.K.PartialEq.eq g.met.K.Key.exact g.met.K.Eq.laws.refl (table_capacity t) before (c.args.line ∷ []) (sheet_now t s) (sheet_now c.apply-fit.new.self c.count.new.self) f (search rules)
+    lawful_on g.K.Key.alike g.met.K.Key.exact g.met.K.Key.itself (table_capacity t) before (c.args.line ∷ []) (sheet_now t s) (sheet_now c.apply-fit.new.self c.count.new.self) f (search rules)

@@ -8,7 +8,7 @@ use Rattle.keys.proofs.sheet.KeySheet.apply_all.Goals as goal
 
 pub returns : goal.returns
 returns g c =
-    let k = g.K.PartialEq.eq in
+    let k = g.K.Key.alike in
     let size = table_capacity c.args.table.now in
     let s = sheet_now c.args.table.now c.args.self.now in
     let t = sheet_now c.loop-line.table c.loop-line.self in
@@ -17,6 +17,6 @@ returns g c =
     record {
       after = done;
       slice = c.loop-line.invariant.1;
-      law = λ before e. lawful_on k g.met.K.Key.exact g.met.K.Eq.laws.refl size before ls s t e done;
+      law = λ before e. lawful_on k g.met.K.Key.exact g.met.K.Key.itself size before ls s t e done;
       equal = λ u u' v v' e f h. h ∙ ap (λ m. worked_on k m (sheet_now u v) ls) e ∙ ap (λ x. worked_on k size x ls) f ∙ sym done;
     }

@@ -9,15 +9,15 @@ use Rattle.keys.proofs.table.KeyTable.put.Goals as goal
 pub returns-in-Some-clause-after : goal.returns-in-Some-clause-after
 returns-in-Some-clause-after g c =
     let t = c.args.self.now in
-    put_over g.K.PartialEq.eq c.args.key (table_capacity t) c.args.words t.pairs.now t.used c.in-Some.i t.within (search rules)
+    put_over g.K.Key.alike c.args.key (table_capacity t) c.args.words t.pairs.now t.used c.in-Some.i t.within (search rules)
 
 pub returns-in-Some-clause-law : goal.returns-in-Some-clause-law
 returns-in-Some-clause-law g c =
     let t = c.args.self.now in
-    let after = put_over g.K.PartialEq.eq c.args.key (table_capacity t) c.args.words t.pairs.now t.used c.in-Some.i t.within (search rules) in
-    put_law g.K.PartialEq.eq g.met.K.Key.exact g.met.K.Eq.laws.refl (table_capacity t) c.args.key c.args.words true (table_pairs t) _ (search rules) after
+    let after = put_over g.K.Key.alike c.args.key (table_capacity t) c.args.words t.pairs.now t.used c.in-Some.i t.within (search rules) in
+    put_law g.K.Key.alike g.met.K.Key.exact g.met.K.Key.itself (table_capacity t) c.args.key c.args.words true (table_pairs t) _ (search rules) after
 
 pub returns-clause-law : goal.returns-clause-law
 returns-clause-law g c =
     let t = c.args.self.now in
-    put_law g.K.PartialEq.eq g.met.K.Key.exact g.met.K.Eq.laws.refl (table_capacity t) c.args.key c.args.words true (table_pairs t) _ (search rules) (grind (arith, common_steps))
+    put_law g.K.Key.alike g.met.K.Key.exact g.met.K.Key.itself (table_capacity t) c.args.key c.args.words true (table_pairs t) _ (search rules) (grind (arith, common_steps))

@@ -9,7 +9,7 @@ pub returns-clause-value : goal.returns-clause-value
 returns-clause-value g c rule computes =
     let f = c.in_ok-field.field-0 in
     let o = computes f.now c.parse.result (f, c.parse.ensures, refl) in
-    read_first rule c.args.self.now f.now c.parse.result c.place-place.result c.ok_or.result c.ok_or.ensures.value c.in_ok-field.ensures.value o c.place-place.ensures
+    read_first rule c.args.self.now f.now c.parse.result c.place-place.result c.ok_or.result c.ok_or.ensures.value c.in_ok-field.ensures.value o c.place-place.ensures.value
 
 pub returns-clause-given : goal.returns-clause-given
 returns-clause-given g c =

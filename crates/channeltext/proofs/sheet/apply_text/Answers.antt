@@ -1,7 +1,7 @@
 -- The sheet after the line is known, so its laws go on.
 use Rattle.std.proofs.Common.{rules}
 use Rattle.channeltext.proofs.Growth.{laws_go_on}
-use Rattle.channeltext.proofs.sheet.ChannelSheet.apply_text.Goals as goal
+use Rattle.channeltext.proofs.sheet.apply_text.Goals as goal
 
 pub returns-clause-law : goal.returns-clause-law
 returns-clause-law c = laws_go_on _ _ _ c.args.line.now (search rules)

@@ -7,14 +7,16 @@ use pack::PackLine;
 use text::{BadField, Fields, parse_line};
 
 fn take_begin(fields: &mut Fields) -> Result<PackLine, BadField>
-    ensures { Takes begin_in fields.old result fields.new }
+    ensures takes { Takes begin_in fields.old result fields.new }
+    ensures left { FromLine fields.new }
 {
     let charge = fields.number()?;
     Ok(PackLine::Begin(charge as f64))
 }
 
 fn take_drain(fields: &mut Fields) -> Result<PackLine, BadField>
-    ensures { Takes drain_in fields.old result fields.new }
+    ensures takes { Takes drain_in fields.old result fields.new }
+    ensures left { FromLine fields.new }
 {
     let current = fields.number()?;
     let seconds = fields.number32()?;
@@ -22,7 +24,8 @@ fn take_drain(fields: &mut Fields) -> Result<PackLine, BadField>
 }
 
 fn take_idle(fields: &mut Fields) -> Result<PackLine, BadField>
-    ensures { Takes idle_in fields.old result fields.new }
+    ensures takes { Takes idle_in fields.old result fields.new }
+    ensures left { FromLine fields.new }
 {
     let seconds = fields.number32()?;
     Ok(PackLine::Idle(seconds))
@@ -31,7 +34,7 @@ fn take_idle(fields: &mut Fields) -> Result<PackLine, BadField>
 // Takes the fields of one pack line, `b CHARGE`, `d CURRENT SECONDS` or `i SECONDS`; fields may follow.
 pub fn take_pack_line(fields: &mut Fields) -> Result<PackLine, BadField>
     ensures takes { Takes pack_line_in fields.old result fields.new }
-    ensures left { FromLine fields.old }
+    ensures left { FromLine fields.old × FromLine fields.new }
 {
     let place = fields.place();
     match fields.letter()? {

@@ -4,7 +4,7 @@
 -- space             the byte between two fields
 -- Unread            the place of the next field, counted from 1, and the fields that are left
 -- unread_at bs i    what is left of the line bs, where the next field begins at the index i
--- FromLine u        u is what is left of some line, where the next field begins at an index within it or just past its end
+-- FromLine u        u is what is left of some line in memory, where the next field begins at an index within it or just past its end
 -- bad_at n          the refusal of the field at the place n
 -- length_check bs   the refusal of a line of more than line_most bytes
 -- contents r        what a field that was read holds
@@ -25,7 +25,7 @@
 -- number32_in f     the field as a number that fits 32 bits
 -- end_of u          the refusal of a field that is too many
 -- Parted bs fs      fs are the fields of the line bs: with single spaces between them they are the line again, and none has a space
-use Rattle.std.specs.Prelude.{◌≡◌, ℕ, ◌+◌, ◌≤◌, cond, List, [], ◌∷◌, length, drop, Some, None, Ok, Err, Option, Result, ◌==◌, nat_le}
+use Rattle.std.specs.Prelude.{◌≡◌, ℕ, ◌+◌, ◌^◌, ◌<◌, ◌≤◌, cond, List, [], ◌∷◌, length, drop, Some, None, Ok, Err, Option, Result, ◌==◌, nat_le}
 use Rattle.std.specs.Borrow.{Bor, MutBor}
 use Rattle.std.specs.Fn.{Once, FnOnceReturnsAt, FnOnceReturnsAtMut}
 use Rattle.std.specs.List.{AllByRecursion, join_with_byte, slice_split}
@@ -49,6 +49,7 @@ unread_at bs i = record { place = i + 1; fields = cond (nat_le i (length bs)) (s
 pub record FromLine (u : Unread) : Type 0 where
   pub line : List ℕ
   pub next : ℕ
+  pub size : length line < 2 ^ 63
   pub within : next ≤ length line + 1
   pub left : u ≡ unread_at line next
 

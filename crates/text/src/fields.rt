@@ -92,7 +92,7 @@ impl<'a> Fields<'a> {
     pub fn field(&mut self) -> Result<&'a [u8], BadField>
         ensures value { contents result ≡ first_field self.old }
         ensures after { self.new ≡ past_field self.old }
-        ensures left { FromLine self.old }
+        ensures left { FromLine self.old × FromLine self.new }
     {
         let place = self.place();
         let rest = self.line.get(self.next..).ok_or(BadField { place })?;
@@ -107,7 +107,7 @@ impl<'a> Fields<'a> {
         ensures value { (rule : List ℕ → Option T) → Computes F.FnOnce parse rule → result ≡ read_by rule self.old }
         ensures given { IfOk result (λ v. (field : List ℕ) × FnOnceReturnsAt F.FnOnce parse field (Some v)) }
         ensures after { self.new ≡ past_field self.old }
-        ensures left { FromLine self.old }
+        ensures left { FromLine self.old × FromLine self.new }
     {
         let place = self.place();
         parse(self.field()?).ok_or(BadField { place })
@@ -117,7 +117,7 @@ impl<'a> Fields<'a> {
     pub fn letter(&mut self) -> Result<char, BadField>
         ensures value { result ≡ read_by letter_in self.old }
         ensures after { self.new ≡ past_field self.old }
-        ensures left { FromLine self.old }
+        ensures left { FromLine self.old × FromLine self.new }
     {
         self.read(letter_of)
     }
@@ -127,7 +127,7 @@ impl<'a> Fields<'a> {
         ensures value { result ≡ read_by number_of self.old }
         ensures bound { IfOk result (λ n. n < 10 ^ 10) }
         ensures after { self.new ≡ past_field self.old }
-        ensures left { FromLine self.old }
+        ensures left { FromLine self.old × FromLine self.new }
     {
         self.read(number_of)
     }
@@ -136,7 +136,7 @@ impl<'a> Fields<'a> {
     pub fn number32(&mut self) -> Result<u32, BadField>
         ensures value { result ≡ read_by number32_in self.old }
         ensures after { self.new ≡ past_field self.old }
-        ensures left { FromLine self.old }
+        ensures left { FromLine self.old × FromLine self.new }
     {
         self.read(number32_of)
     }

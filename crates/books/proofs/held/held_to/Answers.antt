@@ -1,5 +1,5 @@
 -- The first gap is the end of the lines that are held, and where there is none, all lines are.
-use Rattle.std.proofs.Common.{◌≡◌, is_none, unwrap_or, ◌+◌, ap, ap₂, ◌∙◌, subst, subst₂, sym}
+use Rattle.std.proofs.Common.{◌≡◌, is_none, unwrap_or, ◌+◌, ap, ap₂, ◌∙◌, subst, subst₂, arith}
 use Rattle.std.proofs.iter.runs.Sources.{range_listed}
 use Rattle.std.specs.Iterator.Runs.{ItemsCountUp}
 use Rattle.roster.specs.declared.entry.Entry.{Entry}
@@ -20,4 +20,7 @@ returns g c =
     let end : (m : RosterModel (Entry g.row.L.Denot)) → (unwrap_or c.position-gap.result lines ≡ held_to (store_of c.args.group.now m) c.args.worker) × HeldTo (store_of c.args.group.now m) c.args.worker (unwrap_or c.position-gap.result lines) =
     λ m. held_before (store_of c.args.group.now m) c.args.worker c.position-gap.result
     (first_place run.0 _ _ (λ k. is_none (holds (store_of c.args.group.now m) c.args.worker k)) lines c.position-gap.result run.2 up (λ x r t k. (ap₂ (λ a b. (a, b)) k.met.0.0 k.met.0.1, k.met.1 m))) in
-    record { value = λ m. c.unwrap_or.ensures ∙ (end m).0; law = λ m. subst (HeldTo (store_of c.args.group.now m) c.args.worker) (sym c.unwrap_or.ensures) (end m).1 }
+    record {
+      value = λ m. let p = c.unwrap_or.ensures ∙ (end m).0 in omega (arith, p);
+      law = λ m. subst (HeldTo (store_of c.args.group.now m) c.args.worker) (let p = c.unwrap_or.ensures in omega (arith, p)) (end m).1;
+    }

@@ -1,5 +1,5 @@
 -- The field ends at the first space that follows, and the next begins one byte further.
-use Rattle.std.proofs.Common.{◌≤◌, eqb, Ok, take, length, subst, sym, ap, ◌∙◌, arith}
+use Rattle.std.proofs.Common.{◌≤◌, eqb, Ok, take, length, ◌+◌, refl, subst, sym, ap, ◌∙◌, arith, rules}
 use Rattle.std.specs.List.{position_or_len}
 use Rattle.text.specs.Reading.{space, first_field, past_field}
 use Rattle.text.proofs.Cutting.{got_rest, next_first, next_unread}
@@ -24,5 +24,8 @@ returns c =
     record {
       value = ap (λ z. Ok (take n z)) rest.is ∙ next_first bs i n rest.within w ∙ ap first_field c.self.view_is;
       after = next_unread bs i n rest.within w (subst (λ z. n ≤ length z) rest.is c.run_length-length.ensures.bound) ∙ ap past_field c.self.view_is;
-      left = record { line = bs; next = i; within = c.self.invariant; left = sym c.self.view_is };
+      left = (
+        record { line = bs; next = i; size = search rules; within = c.self.invariant; left = sym c.self.view_is },
+        record { line = bs; next = i + (n + 1); size = search rules; within = omega arith; left = refl },
+      );
     }

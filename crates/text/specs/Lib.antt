@@ -1,3 +1,4 @@
 pub mod Texts
 pub mod Reading
 pub mod Shown
+pub mod Views

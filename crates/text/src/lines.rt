@@ -1,27 +1,22 @@
 // The lines of a text.
-ghost use Rattle.std.specs.Prelude.{◌≡◌, ℕ, List};
+ghost use Rattle.std.specs.Prelude.{◌≡◌};
 ghost use Rattle.std.specs.Iterator.{YieldsFirstRef, item_count};
 ghost use Rattle.text.specs.Texts.{lines_of};
+ghost use Rattle.text.specs.Views.{lines_left};
 
 use crate::bytes::run_length;
-use std::marker::Model;
 
-// The lines of a text that are still to come, each without its newline. Its value is the text that is left.
+// The lines of a text that are still to come, each without its newline. No model hides the text: it is what a caller knows of a
+// line that it has not seen.
 #[derive(Drop)]
 pub struct Lines<'a> {
     rest: &'a [u8],
 }
 
-impl<'a> Model for Lines<'a> {
-    ghost Value = { List ℕ };
-
-    ghost view = { λ t. t.rest.now };
-}
-
 impl<'a> Lines<'a> {
     // The lines of a text, all to come.
     pub fn new(text: &'a [u8]) -> Lines<'a>
-        ensures { result ≡ text.now }
+        ensures { lines_left result ≡ lines_of text.now }
     {
         Lines { rest: text }
     }
@@ -30,9 +25,9 @@ impl<'a> Lines<'a> {
 impl<'a> Iterator for Lines<'a> {
     type Item = &'a [u8];
 
-    ghost next_gives = { YieldsFirstRef lines_of };
+    ghost next_gives = { YieldsFirstRef lines_left };
 
-    ghost remaining = { item_count lines_of };
+    ghost remaining = { item_count lines_left };
 
     fn next(&mut self) -> Option<&'a [u8]> {
         if self.rest.is_empty() {

@@ -10,12 +10,12 @@ overflow_add-end c = omega arith
 
 pub returns : goal.returns
 returns c =
-    let bs = c.self.inside.rest.now in
+    let bs = c.args.self.now.rest.now in
     let n = c.run_length-end.result in
-    let rest = ap (λ r. r.now) c.unwrap_or-self-inside.ensures ∙ get_rest bs (n + 1) c.get.result _ c.get.ensures.lookup refl in
+    let rest = ap (λ r. r.now) c.unwrap_or-self.ensures ∙ get_rest bs (n + 1) c.get.result _ c.get.ensures.lookup refl in
     let full : 0 < length bs = grind (arith, nat_tests) in
-    let e : lines_of c.args.self.now ≡ take n bs ∷ lines_of c.unwrap_or-self-inside.result.now =
-    ap lines_of (sym c.self.view_is) ∙ lines_next bs full ∙ ap (λ k. take k bs ∷ lines_of (drop (k + 1) bs)) (sym c.run_length-end.ensures.value) ∙ ap (λ z. take n bs ∷ lines_of z) (sym rest) in
-    let left = lines_of c.unwrap_or-self-inside.result.now in
-    let fewer : length left < length (lines_of c.args.self.now) = subst (λ ls. length left < length ls) (sym e) (omega arith) in
+    let e : lines_of bs ≡ take n bs ∷ lines_of c.unwrap_or-self.result.now =
+    lines_next bs full ∙ ap (λ k. take k bs ∷ lines_of (drop (k + 1) bs)) (sym c.run_length-end.ensures.value) ∙ ap (λ z. take n bs ∷ lines_of z) (sym rest) in
+    let left = lines_of c.unwrap_or-self.result.now in
+    let fewer : length left < length (lines_of bs) = subst (λ ls. length left < length ls) (sym e) (omega arith) in
     record { steps = e; goes = search (fewer, rules) }
